@@ -26,7 +26,7 @@ use Rattle.board_command.specs.Boards.{Boards}
 use Rattle.stress_command.specs.Stress.{EndsStress}
 use Rattle.mpy_tool.specs.Call.{Call, Shows, ShowsPorts}
 use Rattle.mpy_tool.specs.Below.{Based, image_version}
-use Rattle.mpy_tool.specs.Order.{base_by}
+use Rattle.mpy_tool.specs.Order.{base_by, save_by}
 
 module _ (order : Order) (words : List (List ℕ)) (below : Shelf) where
   -- What a command that runs nothing did, with what in the folder and on the output before and behind it, and how it ended, with the
@@ -77,7 +77,7 @@ module _ (order : Order) (call : Call) (below : Shelf) where
   -- how one ended whose state is saved, if that is ordered
   abbrev pub RunsOrSaves : Command → Type 0
   RunsOrSaves command =
-      ShowsPorts call (EndsRunTo (saved_name call.words order.save) (LibraryBy order call.words below command) (room_of order) order.steps (first_name call.words))
+      ShowsPorts call (EndsRunTo (saved_name call.words (save_by command order.save)) (LibraryBy order call.words below command) (room_of order) order.steps (first_name call.words))
 
   -- how each command ended
   abbrev pub ActsBy : Command → Type 0

@@ -95,6 +95,20 @@ stands_alone Run = false
 stands_alone Board = false
 stands_alone Stress = false
 
+-- the place of the name of the file that a run saves to, of a command that may save
+abbrev pub save_by : Command → Option ℕ → Option ℕ
+save_by Go save = None
+save_by Check save = None
+save_by CheckAs save = None
+save_by Dump save = None
+save_by Cross save = None
+save_by Merge save = None
+save_by Freeze save = None
+save_by Migrate save = None
+save_by Run save = save
+save_by Board save = None
+save_by Stress save = None
+
 -- the place of the base's name, of a command that may stand on a base
 abbrev pub base_by : Command → Option ℕ → Option ℕ
 base_by Go base = None

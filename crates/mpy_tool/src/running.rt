@@ -1,6 +1,6 @@
 //! Orders that run a library.
 
-ghost use Rattle.std.specs.Prelude.{◌≡◌, ◌≤◌, ◌||◌, ℕ, List, [], false, true, IfSome, IfOk, IfErr};
+ghost use Rattle.std.specs.Prelude.{◌≡◌, ◌≤◌, ◌||◌, ℕ, List, [], Some, false, true, IfSome, IfOk, IfErr};
 ghost use Rattle.mpy_io.specs.Count.{Counts};
 ghost use Rattle.image_open.specs.mpy_tree.Raw.{Module};
 ghost use Rattle.meant_commands.specs.library_files.Ends.{HoldsModules};
@@ -17,7 +17,7 @@ ghost use Rattle.stress_command.specs.run_commands.Ready.{RunLibrary};
 ghost use Rattle.mpy_tool.specs.Below.{MayLieBelow, library_below};
 ghost use Rattle.mpy_tool.specs.Call.{call_of, texts};
 ghost use Rattle.mpy_tool.specs.Doing.{LibraryBy, RunsOrSaves};
-ghost use Rattle.mpy_tool.specs.Order.{ChangesSaved, runs_library};
+ghost use Rattle.mpy_tool.specs.Order.{ChangesBy, runs_library, save_by};
 
 use crate::below::{or_nothing, release};
 use crate::outside::Outside;
@@ -87,9 +87,32 @@ fn library_of<F: Folder>(
     }
 }
 
-/// Runs what was loaded, saves its state where it takes all its steps and a file for that is ordered, and answers how that ended.
+/// The place of the name of the file that a run saves to, of a command that may save.
+fn save_place(order: Order) -> Option<usize>
+    ensures { result ≡ save_by order.command order.save }
+{
+    match order.command {
+        Command::Run => order.save,
+        Command::Go | Command::Check | Command::CheckAs | Command::Dump => None,
+        Command::Cross | Command::Merge | Command::Freeze => None,
+        Command::Migrate | Command::Board | Command::Stress => None,
+    }
+}
+
+/// The place of the word that the line of a run names which saves to the word at a place.
+fn place_of(at: usize, ending: &Ending) -> usize
+    ensures { result ≡ place_to (Some at) ending.now }
+{
+    match ending {
+        Ending::Unwritten => at,
+        _ => 1,
+    }
+}
+
+/// Runs what was loaded, saves its state where it takes all its steps and a file for that is named, and answers how that ended.
 fn run_to<F: Folder, S: Sink, P: Port, E: Sink>(
     order: Order,
+    save: Option<usize>,
     loaded: Result<Ready, Ending>,
     alloc: Global,
     words: &[String],
@@ -99,11 +122,11 @@ fn run_to<F: Folder, S: Sink, P: Port, E: Sink>(
     requires holds { IfOk loaded (λ ready. HoldsModules ready.library) }
     requires unloaded { IfErr loaded IsUnloaded }
     ensures went { (said : List ℕ)
-        × RunsTo (saved_name (texts words.now) order.save) (λ ready. ready ≡ loaded) (room_of order) order.steps
+        × RunsTo (saved_name (texts words.now) save) (λ ready. ready ≡ loaded) (room_of order) order.steps
             (sight S.told P.seen outside.old.out outside.old.ports) (sight S.told P.seen outside.new.out outside.new.ports)
             said (F.files outside.old.folder) (F.files outside.new.folder) result.ending
         × Says (E.told outside.old.say) (E.told outside.new.say) (E.count outside.old.say) (E.count outside.new.say) said }
-    ensures place { result.place ≡ place_to order.save result.ending }
+    ensures place { result.place ≡ place_to save result.ending }
     ensures flushed { IsRunStatus (status_of result.ending) → S.held outside.new.out ≡ [] }
     ensures silent { is_said result.ending ≡ false → outside.new.say ≡ outside.old.say }
     ensures unwritten { Counts (F.count outside.old.folder) (F.count outside.new.folder) (is_unwritten result.ending) }
@@ -114,7 +137,7 @@ fn run_to<F: Folder, S: Sink, P: Port, E: Sink>(
         cells: order.cells,
         bytes: order.bytes,
     };
-    match order.save {
+    match save {
         Some(at) => {
             let ending = run_saving(
                 alloc,
@@ -127,7 +150,7 @@ fn run_to<F: Folder, S: Sink, P: Port, E: Sink>(
                 &mut outside.ports,
                 &mut outside.say,
             );
-            let place = if matches!(ending, Ending::Unwritten) { at } else { 1 };
+            let place = place_of(at, &ending);
             Ended { ending, place }
         }
         None => Ended {
@@ -159,10 +182,11 @@ pub(crate) fn run_order<F: Folder, S: Sink, P: Port, E: Sink>(
     ensures ended { let call = call_of F.Folder S.Sink P.Port E.Sink words.now outside.old outside.new result in
         RunsOrSaves order call (library_below below) order.command }
     ensures flushed { IsRunStatus result → S.held outside.new.out ≡ [] }
-    ensures files { ChangesSaved (saved_name (texts words.now) order.save) (F.files outside.old.folder) (F.files outside.new.folder) }
+    ensures files { ChangesBy (texts words.now) order.save order.command (F.files outside.old.folder) (F.files outside.new.folder) }
 {
+    let save = save_place(order);
     let loaded = library_of(order, alloc, words, below, &mut outside.folder);
-    let ended = run_to(order, loaded, alloc, words, outside);
+    let ended = run_to(order, save, loaded, alloc, words, outside);
     let name = word_at(words, ended.place);
     let _ = say_ending(&mut outside.say, name, &ended.ending);
     ended.ending.status()
