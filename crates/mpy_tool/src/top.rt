@@ -267,7 +267,8 @@ pub fn mpy<F: Folder, S: Sink, P: Port, E: Sink>(
     // With status 0, and with 1, 5 and 6 of a run, nothing of what is printed is held back.
     ensures flushed { IsRunStatus result → S.held outside.new.out ≡ [] }
 
-    // No command but cross, merge, freeze, migrate and board changes a file, and these none but FILE, OUT and the files of the tasks.
+    // No command but cross, merge, freeze, migrate, board and a run that saves its state changes a file, and these none but FILE, OUT,
+    // SNAP and the files of the tasks.
     ensures files { let call = call_of F.Folder S.Sink P.Port E.Sink words.now outside.old outside.new result in
         ChangesIn call.words (order_of call.words) call.old.files call.new.files }
 {
