@@ -203,7 +203,7 @@ status  0 done                     7 a read failed
         3 a source is refused     10 a file or main module is absent
         4 a file is refused       11 merge, manifest, image, plan or library
         5 all steps were taken    12 a file is no translation of the source
-        6 the room was too small
+        6 the room was too small  13 the state of a run is too big
 docs/MESSAGES.md has each line that is said, docs/LANGUAGE.md the language.
 ";
 
