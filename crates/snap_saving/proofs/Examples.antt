@@ -3,7 +3,7 @@ use Rattle.std.proofs.Common.{◌≡◌, ℕ, ◌+◌, List, [], ◌∷◌, true
 use Rattle.std.specs.Prelude.{◌++◌, codes, pos, negsuc}
 use Rattle.mpy_base.specs.declared.builtin.Builtin.TheVariants as builtins
 use Rattle.mpy_base.specs.declared.kind.Kind.TheVariants as kinds
-use Rattle.mpy_base.specs.World.{Heap, ListObject, TupleObject, TextObject, DictObject, FunctionObject, ExceptionObject, MethodObject, RangeObject, ModuleObject, with_object}
+use Rattle.mpy_base.specs.World.{Heap, ListObject, TupleObject, TextObject, DictObject, FunctionObject, ExceptionObject, MethodObject, RangeObject, ModuleObject}
 use Rattle.mpy_base.specs.Weights.{empty, with_made, with_items, with_pairs, with_used}
 use Rattle.mpy_base.specs.Vuint.{vuint}
 use Rattle.bc_ops.specs.Signed.{signed}

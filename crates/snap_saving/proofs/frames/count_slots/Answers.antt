@@ -1,4 +1,4 @@
-use Rattle.std.proofs.Common.{◌+◌, arith}
+use Rattle.std.proofs.Common.{arith}
 use Rattle.snap_saving.proofs.Slots.{counted, all_counted}
 use Rattle.snap_saving.proofs.frames.count_slots.Goals as goal
 

@@ -1,4 +1,4 @@
-use Rattle.std.proofs.Common.{◌+◌, arith}
+use Rattle.std.proofs.Common.{arith}
 use Rattle.snap_saving.specs.Steps.{entry_bytes, found}
 use Rattle.snap_saving.proofs.Adding.{added_more, ended}
 use Rattle.snap_saving.proofs.frames.put_entries.Goals as goal

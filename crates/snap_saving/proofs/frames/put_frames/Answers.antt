@@ -12,8 +12,8 @@ frame-requires c = omega (arith, c.loop-i-test.true, c.depth-i-end.ensures)
 pub returns-in_err-put_frame-clause-fault : goal.returns-in_err-put_frame-clause-fault
 returns-in_err-put_frame-clause-fault c =
     let p = err_from_is_err_and c.from_residual.result c.from_residual.ensures.1 in
-    let same : c.from_residual.result ≡ Err c.in_err-put_frame.field-0 = cc (p.1, p.2) in
-    exit (IsLong (c.loop-i.out.items ++ call_bytes c.args.library.now (found c.args.places.now) c.frame.result.now.call)) _ c.from_residual.result c.in_err-put_frame.field-0 same c.in_err-put_frame.ensures.fault
+    let same : c.from_residual.result ≡ Err c.in_err-put_frame.field-0.0 = cc (p.1, p.2) in
+    exit (IsLong (c.loop-i.out.items ++ call_bytes c.args.library.now (found c.args.places.now) c.frame.result.now.call)) _ c.from_residual.result c.in_err-put_frame.field-0.0 same c.in_err-put_frame.ensures.fault
     (part_long (call_bytes c.args.library.now (found c.args.places.now)) (reverse c.args.frames.now.calls) c.loop-i.i c.frame.result.now.call c.loop-i.out.items _ c.frame.ensures c.loop-i.invariant)
 
 pub returns-then-is_long-clause-fault : goal.returns-then-is_long-clause-fault

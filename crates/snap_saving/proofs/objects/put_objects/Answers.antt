@@ -15,8 +15,8 @@ returns-in_err-put_cell-clause-fault c =
     let xs = c.args.arena.now.objects in
     let lt : c.loop-cell.cell < length xs = omega (arith, c.loop-cell-test.true, c.used-used.ensures.cells) in
     let p = err_from_is_err_and c.from_residual.result c.from_residual.ensures.1 in
-    let same : c.from_residual.result ≡ Err c.in_err-put_cell.field-0 = cc (p.1, p.2) in
-    exit (IsLong (c.loop-cell.out.items ++ object_bytes c.args.library.now (found c.args.places.now) (object xs c.loop-cell.cell))) _ c.from_residual.result c.in_err-put_cell.field-0 same c.in_err-put_cell.ensures.fault
+    let same : c.from_residual.result ≡ Err c.in_err-put_cell.field-0.0 = cc (p.1, p.2) in
+    exit (IsLong (c.loop-cell.out.items ++ object_bytes c.args.library.now (found c.args.places.now) (object xs c.loop-cell.cell))) _ c.from_residual.result c.in_err-put_cell.field-0.0 same c.in_err-put_cell.ensures.fault
     (part_long (object_bytes c.args.library.now (found c.args.places.now)) xs c.loop-cell.cell (object xs c.loop-cell.cell) c.loop-cell.out.items _ (slice_get-get_or xs c.loop-cell.cell None lt) c.loop-cell.invariant)
 
 pub returns-then-is_long-clause-fault : goal.returns-then-is_long-clause-fault

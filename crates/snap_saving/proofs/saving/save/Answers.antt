@@ -13,8 +13,8 @@ pub returns-in_err-put_state-clause-fault : goal.returns-in_err-put_state-clause
 returns-in_err-put_state-clause-fault c =
     let p = err_from_is_err_and c.from_residual-in_err-put_state.result c.from_residual-in_err-put_state.ensures.1 in
     let whole = spelling (snapshot_of c.args.library.now c.args.arena.now c.args.modules.now c.args.frames.now.calls c.args.paid) in
-    let is : c.from_residual-in_err-put_state.result ≡ Err c.in_err-put_state.field-0 = cc (p.1, p.2) in
-    exit (IsLong (c.new-out.result.items ++ whole)) _ c.from_residual-in_err-put_state.result c.in_err-put_state.field-0 is c.in_err-put_state.ensures.fault (λ long. inr (subst IsLong (ap (λ (old : List ℕ). old ++ whole) c.new-out.ensures.items) long))
+    let is : c.from_residual-in_err-put_state.result ≡ Err c.in_err-put_state.field-0.0 = cc (p.1, p.2) in
+    exit (IsLong (c.new-out.result.items ++ whole)) _ c.from_residual-in_err-put_state.result c.in_err-put_state.field-0.0 is c.in_err-put_state.ensures.fault (λ long. inr (subst IsLong (ap (λ (old : List ℕ). old ++ whole) c.new-out.ensures.items) long))
 
 pub returns-then-is_long-clause-fault : goal.returns-then-is_long-clause-fault
 returns-then-is_long-clause-fault c =

@@ -1,4 +1,4 @@
-use Rattle.std.proofs.Common.{◌≡◌, ◌<◌, ◌+◌, ◌++◌, ◌∷◌, [], List, ℕ, ap, sym, subst, ◌∙◌, arith}
+use Rattle.std.proofs.Common.{◌≡◌, ◌<◌, ◌+◌, List, ℕ, ap, sym, subst, arith}
 use Rattle.mpy_base.specs.Weights.{used}
 use Rattle.snap_saving.specs.Steps.{ArePlaces}
 use Rattle.snap_saving.proofs.Places.{AreFound, found_all, found_more, found_none}
