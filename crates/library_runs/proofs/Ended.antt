@@ -307,8 +307,8 @@ module _ (starts_behind : StartsBehind) (runs_behind : RunsBehind) (put_stands :
 
     -- it took all its steps, and didn't end
     pub stands_in_all : new.end ≡ None → StandsAt shelf n.name room steps old now new
-    stands_in_all open = record {
-      goes_on = open;
+    stands_in_all still_open = record {
+      goes_on = still_open;
       stands = λ p is ports printed e t.
           let opens = opened p n.name ports is (main_named shelf p is main n at) in
           elim (runs p is (begins_in p n.name room 0 ports printed) (agrees starts_behind runs_behind put_stands told shelf p is n.name room ports printed vm opens before e t)) [

@@ -114,12 +114,12 @@ module _ (Comes : Result Ready Ending → Type 0) (room : Room) (steps : ℕ) (o
   module _ (ready : Ready) (comes : Comes (Ok ready)) where
     -- it ended before its steps did
     pub ended_so : (end : RunEnd) → end ≢ ends.Limit → (end ≡ ends.NoMemory → new ≡ old) → RunsAs ready.library ready.main room steps old new end said → files_new ≡ files_old → Went (ending_of end steps)
-    ended_so ends.Ended open none r same = (ran_library Comes room steps old new said ready ends.Ended comes none r, same)
-    ended_so ends.Raised open none r same = (ran_library Comes room steps old new said ready ends.Raised comes none r, same)
-    ended_so ends.Memory open none r same = (ran_library Comes room steps old new said ready ends.Memory comes none r, same)
-    ended_so ends.Limit open none r same = absurd (open refl)
-    ended_so ends.WriteFault open none r same = (ran_library Comes room steps old new said ready ends.WriteFault comes none r, same)
-    ended_so ends.NoMemory open none r same = (inl (ran_library Comes room steps old new said ready ends.NoMemory comes none r), same)
+    ended_so ends.Ended other none r same = (ran_library Comes room steps old new said ready ends.Ended comes none r, same)
+    ended_so ends.Raised other none r same = (ran_library Comes room steps old new said ready ends.Raised comes none r, same)
+    ended_so ends.Memory other none r same = (ran_library Comes room steps old new said ready ends.Memory comes none r, same)
+    ended_so ends.Limit other none r same = absurd (other refl)
+    ended_so ends.WriteFault other none r same = (ran_library Comes room steps old new said ready ends.WriteFault comes none r, same)
+    ended_so ends.NoMemory other none r same = (inl (ran_library Comes room steps old new said ready ends.NoMemory comes none r), same)
 
     module _ (runs : RunsAs ready.library ready.main room steps old new ends.Limit said) (vm : Vm) (stands : StandsAt ready.library ready.main room steps old new vm) where
       suspends : (Saves : Shelf → Vm → Type 0) → Saves ready.library vm → Suspends Comes room steps old new said Saves
