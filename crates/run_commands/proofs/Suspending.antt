@@ -262,6 +262,28 @@ module _ (room : Room) (steps : ℕ) (old new : Sight) (said snap : List ℕ) (f
   saving_only Comes NoMemory r = same_only files_old files_new snap r.1
   saving_only Comes Absent r = same_only files_old files_new snap r.1
 
+-- a run that saves nothing isn't unwritten
+pub runs_written : (Comes : Result Ready Ending → Type 0) (room : Room) (steps : ℕ) (old new : Sight) (said : List ℕ) (ending : Ending) → Runs Comes room steps old new said ending → is_unwritten ending ≡ false
+runs_written Comes room steps old new said Done r = refl
+runs_written Comes room steps old new said (Unaccepted fault) r = refl
+runs_written Comes room steps old new said (Unread fault) r = refl
+runs_written Comes room steps old new said (Unverified fault) r = refl
+runs_written Comes room steps old new said (Unmerged fault) r = refl
+runs_written Comes room steps old new said (Unopened fault) r = refl
+runs_written Comes room steps old new said (Unfrozen fault) r = refl
+runs_written Comes room steps old new said (Unboarded fault) r = refl
+runs_written Comes room steps old new said (Different difference) r = refl
+runs_written Comes room steps old new said (Stopped stop) r = refl
+runs_written Comes room steps old new said ReadFault r = refl
+runs_written Comes room steps old new said WriteFault r = refl
+runs_written Comes room steps old new said Unwritten r = absurd r
+runs_written Comes room steps old new said NoMemory r = refl
+runs_written Comes room steps old new said Absent r = refl
+
+pub or_false : (a b c : Bool) → a ≡ c → b ≡ false → (a || b) ≡ c
+or_false true b c e f = e
+or_false false b c e f = f ∙ e
+
 -- counts of faults of the folder
 -- ==============================
 
