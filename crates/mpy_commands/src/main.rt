@@ -8,7 +8,7 @@
 //!
 //! What is to come of it: `=` is the status, `>` a line that is printed, `+` a text, and `<` says that only a front of that is printed;
 //! `-` is a line that is said and `-+` a text, `w` has the numbers that the port has written, and `^` names a file that is there behind
-//! the command with the bytes in `o`, in hexadecimal, or isn't there where these are none.
+//! the command with the bytes in `o`, in hexadecimal. With no line `o` it isn't there, and an empty one has a line `o` with nothing.
 #![tactic(auto)]
 
 mod parts;

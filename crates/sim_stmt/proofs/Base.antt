@@ -1,62 +1,24 @@
 -- Where an expression or a statement runs, what a step there is, and laws of the machine's moves.
-use Rattle.std.proofs.Common.{◌≡◌, ℕ, zero, suc, ◌+◌, ◌-◌, ◌≤◌, ◌<◌, Bool, true, false, List, [], ◌∷◌, ◌++◌, length, map, drop, Some, refl, sym, ap, ◌∙◌, arith}
+use Rattle.std.proofs.Common.{◌≡◌, ℕ, zero, suc, ◌-◌, ◌≤◌, ◌<◌, Bool, true, false, List, [], ◌∷◌, ◌++◌, length, map, drop, Some, refl, sym, ap, ◌∙◌, arith}
 use Rattle.std.proofs.lemmas.Bool.{le-leb, lt-leb}
 use Rattle.std.proofs.lemmas.List.{length-append}
 use Rattle.std.specs.Prelude.{slice_get, nat_eq, if◌then◌else◌}
 use Rattle.bc_scheme.specs.mpy_base.Val.{Val, At, PlainWorld}
 use Rattle.bc_scheme.specs.py_effects.Effect.{Place}
 use Rattle.bc_scheme.specs.py_effects.Names.{Locals}
-use Rattle.bc_scheme.specs.py_meaning.Frames as meanings
 use Rattle.bc_scheme.specs.py_meaning.Frames.{place_at}
-use Rattle.bc_scheme.specs.bc_machine.Library.{Item, Code, Module, Library, entry_in, module_in, code_at}
+use Rattle.bc_scheme.specs.bc_machine.Library.{Item, Library}
 use Rattle.bc_scheme.specs.bc_machine.State.{Slot, Value, KeptReturn, Entry, Frame, State, Running, go, remark, cut, abandoned, throw_in, throw_out, throw, is_run, leave, unwind}
 use Rattle.bc_scheme.specs.bc_machine.Step.{item_step, step}
 use Rattle.bc_scheme.proofs.bc_machine_lemmas.Fetch.{fetch}
-use Rattle.bc_scheme.specs.Context.{Context, Has, Behind, line_before}
+use Rattle.bc_scheme.specs.Context.{Has, Behind, line_before}
+use Rattle.sim_stmt.specs.Sites.{Site, at, Sited, Quiet, Fits}
 
 -- ---- sites
 
--- what stays the same while a code runs: the meaning's frame, the code and its context, the machine's frame (of which only
--- the module, the code, the entries, the names and the role count), and the frames that wait
-pub record Site : Type 0 where
-  pub g : meanings.Frame
-  pub c : Context
-  pub f : Frame
-  pub frames : List Frame
-  pub m : Module
-  pub code : Code
-
--- the machine's frame at a position, with these locals and slots
-abbrev pub at : Frame → ℕ → Locals → List Slot → Frame
-at f p env slots = record f { position = p; locals = env; slots = slots }
-
 -- the same site with other entries
 abbrev pub holding : Site → List Entry → Site
-holding k es = record k { f = record k.f { entries = es } }
-
--- a code whose children have numbers that are greater by `shift`
-abbrev pub shifted : ℕ → Code → Code
-shifted shift code = record code { children = map (λ n. shift + n) code.children }
-
--- both sides run the same text
-pub record Sited (library : Library) (k : Site) : Type 0 where
-  pub of_module : module_in (entry_in library k.f.module_name) ≡ Some k.m
-  pub of_code : code_at library k.f.module_name k.f.code ≡ Some k.code
-  pub lines : k.code.lines ≡ k.c.lines
-  pub file : k.m.file ≡ k.g.file
-  pub name : k.code.name ≡ k.g.name
-  pub level : k.c.level ≡ k.g.level
-  pub locals : k.c.locals ≡ k.g.locals
-  pub names : k.f.names ≡ k.g.names
-  pub module_name : k.f.module_name ≡ k.g.module_name
-  pub depth : k.g.depth ≡ suc (length k.frames)
-  -- the codes of the context stand in the module behind `shift` others
-  pub shift : ℕ
-  pub children : (i number : ℕ) → slice_get k.c.children i ≡ Some number → slice_get k.code.children i ≡ Some (shift + number)
-  pub base : k.g.base ≡ shift + k.c.base
-  pub codes : (number : ℕ) (code : Code) → slice_get k.c.codes number ≡ Some code → slice_get k.m.codes (shift + number) ≡ Some (shifted shift code)
-  -- the code has a slot for each local
-  pub rooms : length k.c.locals ≤ k.code.locals
+holding k es = record k { frame = record k.frame { entries = es } }
 
 pub sited_with : (library : Library) (k : Site) (es : List Entry) → Sited library k → Sited library (holding k es)
 sited_with library k es s = record {
@@ -78,35 +40,26 @@ sited_with library k es s = record {
 }
 
 -- a step is that of the item which stands at the position, with the meaning's place
-pub stepped : (library : Library) (k : Site) (paid line p : ℕ) (item : Item) (env : Locals) (slots : List Slot) (w : PlainWorld) → Sited library k → Has k.c line p item
-    → step library (Running paid (at k.f p env slots) k.frames w) ≡ item_step library (place_at k.g line) paid (at k.f p env slots) k.frames w item
+pub stepped : (library : Library) (k : Site) (paid line p : ℕ) (item : Item) (env : Locals) (slots : List Slot) (w : PlainWorld) → Sited library k → Has k.context line p item
+    → step library (Running paid (at k.frame p env slots) k.waiting w) ≡ item_step library (place_at k.meant line) paid (at k.frame p env slots) k.waiting w item
 stepped library k paid line p item env slots w s h =
-    fetch library paid (at k.f p env slots) k.frames w k.m k.code (record { item = item; line = if nat_eq k.c.level 3 then 1 else line })
+    fetch library paid (at k.frame p env slots) k.waiting w k.holder k.code (record { item = item; line = if nat_eq k.context.level 3 then 1 else line })
     (record { of_module = s.of_module; of_code = s.of_code; of_line = ap (λ lines. slice_get lines p) s.lines ∙ h })
-    ∙ ap (λ a. item_step library (record { file = a; line = if nat_eq k.c.level 3 then 1 else line; name = k.code.name }) paid (at k.f p env slots) k.frames w item) s.file
-    ∙ ap (λ a. item_step library (record { file = k.g.file; line = if nat_eq a 3 then 1 else line; name = k.code.name }) paid (at k.f p env slots) k.frames w item) s.level
-    ∙ ap (λ a. item_step library (record { file = k.g.file; line = if nat_eq k.g.level 3 then 1 else line; name = a }) paid (at k.f p env slots) k.frames w item) s.name
+    ∙ ap (λ a. item_step library (record { file = a; line = if nat_eq k.context.level 3 then 1 else line; name = k.code.name }) paid (at k.frame p env slots) k.waiting w item) s.file
+    ∙ ap (λ a. item_step library (record { file = k.meant.file; line = if nat_eq a 3 then 1 else line; name = k.code.name }) paid (at k.frame p env slots) k.waiting w item) s.level
+    ∙ ap (λ a. item_step library (record { file = k.meant.file; line = if nat_eq k.meant.level 3 then 1 else line; name = a }) paid (at k.frame p env slots) k.waiting w item) s.name
 
 -- the place of an item that has the line of the one before it
 abbrev pub place_behind : Site → ℕ → Place
-place_behind k p = record { file = k.m.file; line = line_before k.c.lines p; name = k.code.name }
+place_behind k p = record { file = k.holder.file; line = line_before k.context.lines p; name = k.code.name }
 
-pub stepped_behind : (library : Library) (k : Site) (p : ℕ) (item : Item) (env : Locals) (slots : List Slot) (w : PlainWorld) → Sited library k → Behind k.c p item
-    → step library (Running 0 (at k.f p env slots) k.frames w) ≡ item_step library (place_behind k p) 0 (at k.f p env slots) k.frames w item
+pub stepped_behind : (library : Library) (k : Site) (p : ℕ) (item : Item) (env : Locals) (slots : List Slot) (w : PlainWorld) → Sited library k → Behind k.context p item
+    → step library (Running 0 (at k.frame p env slots) k.waiting w) ≡ item_step library (place_behind k p) 0 (at k.frame p env slots) k.waiting w item
 stepped_behind library k p item env slots w s h =
-    fetch library 0 (at k.f p env slots) k.frames w k.m k.code (record { item = item; line = line_before k.c.lines p })
+    fetch library 0 (at k.frame p env slots) k.waiting w k.holder k.code (record { item = item; line = line_before k.context.lines p })
     (record { of_module = s.of_module; of_code = s.of_code; of_line = ap (λ lines. slice_get lines p) s.lines ∙ h })
 
 -- ---- entries
-
--- from one position to another no entry's mark changes
-abbrev pub Quiet : List Entry → (lo hi : ℕ) → Type 0
-Quiet es lo hi = (p : ℕ) → lo ≤ p → p ≤ hi → map (remark p) es ≡ es
-
--- no entry's height is above `n` slots
-abbrev pub Fits : List Entry → ℕ → Type 0
-Fits [] n = Unit {0}
-Fits (e ∷ es) n = (e.height ≤ n) × Fits es n
 
 pub fits_more : (es : List Entry) (m n : ℕ) → m ≤ n → Fits es m → Fits es n
 fits_more [] m n le f = tt
@@ -173,6 +126,6 @@ pub quiet_in : (es : List Entry) (lo hi lo1 hi1 : ℕ) → lo ≤ lo1 → hi1 �
 quiet_in es lo hi lo1 hi1 a b quiet p l h = quiet p (omega arith) (omega arith)
 
 -- on at a position within those
-pub went : (k : Site) (p q : ℕ) (env : Locals) (slots0 slots : List Slot) (w : PlainWorld) → map (remark q) k.f.entries ≡ k.f.entries
-    → go q slots k.f.entries (at k.f p env slots0) k.frames w ≡ Running 0 (at k.f q env slots) k.frames w
-went k p q env slots0 slots w e = ap (λ es. Running 0 (record (at k.f q env slots) { entries = es }) k.frames w) e
+pub went : (k : Site) (p q : ℕ) (env : Locals) (slots0 slots : List Slot) (w : PlainWorld) → map (remark q) k.frame.entries ≡ k.frame.entries
+    → go q slots k.frame.entries (at k.frame p env slots0) k.waiting w ≡ Running 0 (at k.frame q env slots) k.waiting w
+went k p q env slots0 slots w e = ap (λ es. Running 0 (record (at k.frame q env slots) { entries = es }) k.waiting w) e

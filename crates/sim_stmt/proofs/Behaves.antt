@@ -12,18 +12,19 @@ use Rattle.bc_scheme.specs.py_meaning.Program.{Program, first_file, registered_m
 use Rattle.bc_scheme.specs.py_meaning.Outcomes.{Out, EVal, EExc, EOpen, EFull, e_then, e_given, e_turns, e_does}
 use Rattle.bc_scheme.specs.py_meaning.Imports.{part_place, run_unit}
 use Rattle.bc_scheme.specs.py_meaning.Meaning as meanings
-use Rattle.bc_scheme.specs.py_meaning.Meaning.{sem, main_run, meaning}
+use Rattle.bc_scheme.specs.py_meaning.Meaning.{sem, main_run}
+use Rattle.bc_scheme.specs.py_meaning.Bounds.{left_e}
 use Rattle.bc_scheme.specs.bc_machine.Library.{Code, Library, code_at}
 use Rattle.bc_scheme.specs.bc_machine.State.{Main, State, Running, Halted, Stuck}
 use Rattle.bc_scheme.specs.bc_machine.Machine as machines
-use Rattle.bc_scheme.specs.bc_machine.Machine.{steps, begun, opened, start, run}
+use Rattle.bc_scheme.specs.bc_machine.Machine.{steps, begun, opened, start}
 use Rattle.bc_scheme.specs.bc_machine.Growth.{world_of}
 use Rattle.bc_scheme.proofs.bc_machine_lemmas.Laws as laws
-use Rattle.bc_scheme.proofs.bc_machine_lemmas.Laws.{steps_print, run_fits, start_names}
+use Rattle.bc_scheme.proofs.bc_machine_lemmas.Laws.{steps_print}
 use Rattle.bc_scheme.specs.Correct.{HasEnded, IsOpen, IsBehind, Behaves}
-use Rattle.sim_stmt.proofs.Rooms.{start_room}
-use Rattle.sim_stmt.proofs.Goes.{InOrder, Reaches}
-use Rattle.sim_stmt.proofs.Lands.{IsGoing, left}
+use Rattle.sim_stmt.specs.Order.{InOrder}
+use Rattle.sim_stmt.specs.Lands.{IsGoing}
+use Rattle.sim_stmt.proofs.Goes.{Reaches, start_order}
 use Rattle.sim_stmt.proofs.Blocks.{IsUnit, Coded, Started}
 use Rattle.sim_stmt.proofs.Stmts.{sims}
 use Rattle.sim_stmt.proofs.Units.{LandsU, unit_sim}
@@ -87,7 +88,7 @@ module _ (library : Library) (K : ℕ) (s : State) where
   ]
 
   abbrev Followed : ℕ → Out Val → Type 0
-  Followed t r = Reaches library K (EndsAs r) s t (left r) 0 0 2 K
+  Followed t r = Reaches library K (EndsAs r) s t (left_e r) 0 0 2 K
 
   -- ---- where the meaning ended
 
@@ -178,7 +179,7 @@ module _ (program : Program) (library : Library) (K : ℕ) (some : 1 ≤ K) (cod
           let place = part_place (first_file program.main) in
           let nowhere : Place = record { file = []; line = 0; name = [] } in
           let still = module_still world registered_main in
-          let order : InOrder library from = record { names = run_fits library program.main_name cells bytes ports 0; rooms = start_room library program.main_name world; registered = start_names library program.main_name world } in
+          let order : InOrder library from = start_order library program.main_name cells bytes ports in
           subst (λ v. Followed library K from t (e_then (e_turns v t world (e_given (given place effect))) (λ made. main_run program made.names))) (sym still.at_once)
           (subst (λ g. Followed library K (opened library program.main_name g) t (e_then (e_given (given place effect) t) (λ made. main_run program made.names))) (sym (still.anywhere nowhere place))
           (from_given t (given place effect) (subst (λ g. InOrder library (opened library program.main_name g)) (still.anywhere nowhere place) order)))

@@ -13,13 +13,13 @@ use Rattle.bc_scheme.specs.bc_machine.Library as libraries
 use Rattle.bc_scheme.specs.bc_machine.Library.{Line, line_of, Code, Library, Holds, module_in, code_in, code_at, size_of, sizes_of, numbers_from, codes_from, codes_of, module_of}
 use Rattle.bc_scheme.specs.py_meaning.Tree.{Name, Function, functions}
 use Rattle.bc_scheme.specs.py_meaning.Program as programs
-use Rattle.bc_scheme.specs.py_meaning.Program.{Source, Unit, Single, Merge, Units, Part, Parts, Runs, Refused, Program, Text, Content, OfText, OfParts, first_file, first_file_of, module_text, function_texts, source_texts, contents, contents_of, entry_in, unit_in, unit_of, content_at}
+use Rattle.bc_scheme.specs.py_meaning.Program.{Source, Unit, Single, Merge, Units, Part, Parts, Runs, Refused, Program, Text, Content, OfText, first_file, first_file_of, module_text, function_texts, source_texts, contents, contents_of, entry_in, unit_in}
 use Rattle.bc_scheme.specs.Statements.{StandsB}
 use Rattle.bc_scheme.specs.Translation.{own, StandsCode, StandAll, Translates}
 use Rattle.bc_scheme.specs.Merge.{calls, on_line_1, outer_body, trees_of, merge_of}
 use Rattle.bc_scheme.specs.Link.{IsModuleOf, translated, merged, AreModulesOf, last_unit, next_unit, IsEntryOf, Links}
 use Rattle.bc_scheme.specs.Correct.{Behaves}
-use Rattle.sim_stmt.proofs.Base.{shifted}
+use Rattle.sim_stmt.specs.Sites.{shifted}
 use Rattle.sim_stmt.proofs.Sizes.{bsize}
 use Rattle.sim_stmt.proofs.Blocks.{IsText, IsCall, AreCalls, IsOuter, IsUnit, AreUnits, IsCode, Coded, head_of, StartsUnit, IsStart, Started}
 use Rattle.sim_stmt.proofs.Behaves.{behaves}
@@ -387,29 +387,30 @@ module _ (library : Library) (K : ℕ) (name : Name) where
   by_entry (Some Refused) e le number = ap (λ x. code_in (module_in x) number) e
   by_entry (Some (Runs u)) e le number = by_unit u e.0 e.1 e.2 le number
 
-module _ (program : Program) (library : Library) (links : Links program library) where
+-- no body of a program is greater than K, of which there is a least one
+module _ (program : Program) (library : Library) (links : Links program library) (K : ℕ) (le : greatest program ≤ K) where
   by_name : (name : Name) (number : ℕ) (b : Bool) → bytes_eq name program.main_name ≡ b
-      → IsCode library (greatest program) name number (option_and_then (λ unit. slice_get (contents (first_file unit) unit 0) number) (if b then Some program.main else unit_in (entry_in program.entries name)))
+      → IsCode library K name number (option_and_then (λ unit. slice_get (contents (first_file unit) unit 0) number) (if b then Some program.main else unit_in (entry_in program.entries name)))
   by_name name number true e =
-      subst (λ y. IsCode library (greatest program) y number (slice_get (contents (first_file program.main) program.main 0) number)) (sym ((bytes_eq-Decides name program.main_name).0 e))
-      (by_unit library (greatest program) program.main_name program.main links.main.0 links.main.1 links.main.2 (omega arith) number)
+      subst (λ y. IsCode library K y number (slice_get (contents (first_file program.main) program.main 0) number)) (sym ((bytes_eq-Decides name program.main_name).0 e))
+      (by_unit library K program.main_name program.main links.main.0 links.main.1 links.main.2 (omega (arith, le)) number)
   by_name name number false e =
-      by_entry library (greatest program) name (entry_in program.entries name) (links.entries name differs) (omega (arith, in_entries program.entries name)) number
+      by_entry library K name (entry_in program.entries name) (links.entries name differs) (omega (arith, in_entries program.entries name, le)) number
     where
       differs : name ≡ codes "__main__" → program.main_name ≡ codes "__main__" → ⊥
       differs p q = let same : bytes_eq name program.main_name ≡ true = (bytes_eq-Decides name program.main_name).1 (p ∙ sym q) in cc
 
   -- each text and each merge of a program has its code in a library of its modules
-  linked : Coded program library (greatest program)
+  pub linked : Coded program library K
   linked name number = by_name name number (bytes_eq name program.main_name) refl
 
   -- and each entry is there
-  started_all : Started program library (greatest program)
-  started_all name other = started_entry library (greatest program) name (entry_in program.entries name) (links.entries name (λ p q. other p)) (omega (arith, in_entries program.entries name))
+  pub started_all : Started program library K
+  started_all name other = started_entry library K name (entry_in program.entries name) (links.entries name (λ p q. other p)) (omega (arith, in_entries program.entries name, le))
 
-  -- a program, in a library of its modules, behaves as it means
-  pub behaves_linked : (cells bytes : ℕ) (ports : List PortState) → Behaves program library cells bytes ports
-  behaves_linked cells bytes ports =
-      let K = greatest program in
-      let start : StartsUnit library K program.main_name program.main = started_unit library K program.main_name program.main links.main.0 links.main.1 links.main.2 (omega arith) in
-      behaves program library K (omega arith) linked started_all start.code (ap (λ o. code_in (module_in o) 0) start.entry ∙ start.of_code) start.unit cells bytes ports
+-- a program, in a library of its modules, behaves as it means
+pub behaves_linked : (program : Program) (library : Library) → Links program library → (cells bytes : ℕ) (ports : List PortState) → Behaves program library cells bytes ports
+behaves_linked program library links cells bytes ports =
+    let K = greatest program in
+    let start : StartsUnit library K program.main_name program.main = started_unit library K program.main_name program.main links.main.0 links.main.1 links.main.2 (omega arith) in
+    behaves program library K (omega arith) (linked program library links K (omega arith)) (started_all program library links K (omega arith)) start.code (ap (λ o. code_in (module_in o) 0) start.entry ∙ start.of_code) start.unit cells bytes ports

@@ -16,11 +16,7 @@ use Rattle.bc_scheme.specs.py_meaning.Expressions.{unary_of, binary_of, compare,
 use Rattle.bc_scheme.specs.bc_machine.State.{Slot, Value}
 use Rattle.bc_scheme.specs.bc_machine.Operations.{operator_at, unary_at, value_in, values, paired, Operands, operands}
 use Rattle.bc_scheme.specs.Context.{unary_number, arithmetic, comparing, is_negated}
-
--- values put onto the slots, the first first
-abbrev pub pushed : List Val → List Slot → List Slot
-pushed [] slots = slots
-pushed (v ∷ vs) slots = pushed vs (Value v ∷ slots)
+use Rattle.sim_stmt.specs.Follows.{pushed, laid}
 
 pub pushed_is : (vs : List Val) (slots : List Slot) → pushed vs slots ≡ map Value (reverse vs) ++ slots
 pushed_is [] slots = refl
@@ -47,11 +43,6 @@ values_of vs slots n e =
 
 pub below_of : (vs : List Val) (slots : List Slot) (n : ℕ) → length vs ≡ n → drop n (pushed vs slots) ≡ slots
 below_of vs slots n e = ap (drop n) (pushed_is vs slots) ∙ drop_at (map Value (reverse vs)) slots n (length_pushed vs ∙ e)
-
--- keyword arguments as they lie on the slots
-abbrev pub laid : List (Val × Val) → List Val
-laid [] = []
-laid (key ∷ keys) = key.0 ∷ key.1 ∷ laid keys
 
 pub paired_laid : (keys : List (Val × Val)) → paired (laid keys) ≡ keys
 paired_laid [] = refl

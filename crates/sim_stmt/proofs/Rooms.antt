@@ -18,7 +18,7 @@ use Rattle.bc_scheme.specs.py_effects.Calling.{Keys, Function, Callee, Runs, Act
 use Rattle.bc_scheme.specs.py_effects.Modules.{Made, has_items, make_module, store_module, prefixes}
 use Rattle.bc_scheme.specs.bc_machine.Library.{Name, Item, Plain, Names, Loads, Jumps, Unwinds, Line, Code, Module, Entry, Holds, Refused, Library, entry_in, module_in, code_in, code_at}
 use Rattle.bc_scheme.specs.bc_machine.State as states
-use Rattle.bc_scheme.specs.bc_machine.State.{Slot, Value, Null, Object, Iter, KeptReturn, KeptJump, Role, Main, Called, Imported, Frame, State, Running, Halted, Stuck, cut, abandoned, throw_in, throw_out, throw, fail, on_given, give, is_run, leave, unwind, resume}
+use Rattle.bc_scheme.specs.bc_machine.State.{Slot, Value, Null, Object, Iter, KeptReturn, KeptJump, Role, Called, Imported, Frame, State, Running, Halted, Stuck, cut, abandoned, throw_in, throw_out, throw, fail, on_given, give, is_run, leave, unwind, resume}
 use Rattle.bc_scheme.specs.bc_machine.Parts.{has_depth, is_zero, first_absent}
 use Rattle.bc_scheme.specs.bc_machine.Operations.{TwoValued, operator_at, unary_at, Operands, operands, kept_of}
 use Rattle.bc_scheme.specs.bc_machine.Step.{paying, does, gives, puts, entered, run_code, run_callee, call_function, call_looked, made_function, make, given_by, make_with, begun, begin, import_absent, import, name_step, child, number_step, end_finally, pop_except, plain_step, next_item, jump_step, one_step, two_step, instr_step, item_step, run_line, line_at, step}

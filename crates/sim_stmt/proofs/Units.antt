@@ -22,18 +22,21 @@ use Rattle.bc_scheme.specs.py_meaning.Program.{Program, Source, Single, Merge, U
 use Rattle.bc_scheme.specs.py_meaning.Outcomes.{Out, EVal, EExc, EOpen, EFull, Done, Normal, Broke, Continued, Returned, Raised, SOut, SDone, SOpen, SFull, from_body, call_done, e_then, e_does, e_fails, e_choose}
 use Rattle.bc_scheme.specs.py_meaning.Imports.{unit_frame, part_place, call_part, run_unit, run_parts}
 use Rattle.bc_scheme.specs.py_meaning.Meaning.{sem}
+use Rattle.bc_scheme.specs.py_meaning.Bounds.{left_e}
 use Rattle.bc_scheme.specs.bc_machine.Library.{Code, Module, Library, code_at}
 use Rattle.bc_scheme.specs.bc_machine.State as states
 use Rattle.bc_scheme.specs.bc_machine.State.{Slot, Value, Role, Called, Frame, State, Running, Halted, remark, abandoned, give, throw_out}
 use Rattle.bc_scheme.specs.bc_machine.Parts.{has_depth, new_frame}
 use Rattle.bc_scheme.specs.bc_machine.Step as steps
-use Rattle.bc_scheme.specs.bc_machine.Step.{item_step, child_of, step}
+use Rattle.bc_scheme.specs.bc_machine.Step.{item_step, child_of}
 use Rattle.bc_scheme.specs.Context.{Behind, plain, number}
 use Rattle.bc_scheme.specs.Statements.{Around}
-use Rattle.sim_stmt.proofs.Goes.{Goes, g_here, g_wide, g_step, g_pay, g_map, g_bind, g_then}
-use Rattle.sim_stmt.proofs.Base.{Site, at, Sited, stepped, stepped_behind, went}
-use Rattle.sim_stmt.proofs.Lands.{IsGoing, valued, left, if_value, Falls, GoesO, o_wide, o_bind, o_turned, o_gives, o_goes, o_fails}
-use Rattle.sim_stmt.proofs.Ends.{GoesS, state_of, if_normal}
+use Rattle.sim_stmt.specs.Sites.{Site, at, Sited}
+use Rattle.sim_stmt.specs.Lands.{IsGoing, valued, state_of}
+use Rattle.sim_stmt.proofs.Goes.{GoesIn, g_here, g_wide, g_step, g_pay, g_map, g_bind, g_then}
+use Rattle.sim_stmt.proofs.Base.{stepped, stepped_behind, went}
+use Rattle.sim_stmt.proofs.Lands.{if_value, Falls, GoesO, o_wide, o_bind, o_turned, o_gives, o_goes, o_fails}
+use Rattle.sim_stmt.proofs.Ends.{GoesS, if_normal}
 use Rattle.sim_stmt.proofs.Sizes.{bsize}
 use Rattle.sim_stmt.proofs.Blocks.{IsText, text_lines, text_name, text_locals, text_children, OnLine1, IsCall, AreCalls, IsOuter, IsUnit, AreUnits, IsHead, head_of, SimS, b_sim}
 
@@ -49,18 +52,18 @@ whole last = record { brk = last; cont = last; count = 0; iterator = false }
 
 module _ (library : Library) (K : ℕ) where
   -- the end of a code: None is returned
-  pub ended : (k : Site) (last : ℕ) (env : Locals) (w : PlainWorld) (L : State → Type 0) (t left1 spare owed x size : ℕ) → Sited library k → k.f.entries ≡ []
-      → Behind k.c last (plain ops.LoadConstNone) → Behind k.c (suc last) (plain ops.ReturnValue)
-      → Goes library K L (states.leave Nil k.f.entries (at k.f (suc last) env []) k.frames w) t left1 spare owed x size
-      → Goes library K L (Running 0 (at k.f last env []) k.frames w) t left1 spare owed (suc (suc x)) size
+  pub ended : (k : Site) (last : ℕ) (env : Locals) (w : PlainWorld) (L : State → Type 0) (t left1 spare owed x size : ℕ) → Sited library k → k.frame.entries ≡ []
+      → Behind k.context last (plain ops.LoadConstNone) → Behind k.context (suc last) (plain ops.ReturnValue)
+      → GoesIn library K L (states.leave Nil k.frame.entries (at k.frame (suc last) env []) k.waiting w) t left1 spare owed x size
+      → GoesIn library K L (Running 0 (at k.frame last env []) k.waiting w) t left1 spare owed (suc (suc x)) size
   ended k last env w L t left1 spare owed x size s none h1 h2 g =
-      let quiet : map (remark (suc last)) k.f.entries ≡ k.f.entries = ap (map (remark (suc last))) none ∙ sym none in
+      let quiet : map (remark (suc last)) k.frame.entries ≡ k.frame.entries = ap (map (remark (suc last))) none ∙ sym none in
       g_step library K L _ _ t left1 spare owed (suc x) size (stepped_behind library k last (plain ops.LoadConstNone) env [] w s h1 ∙ went k last (suc last) env [] (Value Nil ∷ []) w quiet)
       (g_step library K L _ _ t left1 spare owed x size (stepped_behind library k (suc last) (plain ops.ReturnValue) env (Value Nil ∷ []) w s h2) g)
 
   -- a call is done, and its caller goes on
-  pub called_sim : (k : Site) (p : ℕ) (env : Locals) (slots : List Slot) (s : State) (t x size : ℕ) (r : Out Val) → Falls k env slots slots → map (remark (suc p)) k.f.entries ≡ k.f.entries
-      → Goes library K (LandsU Called (at k.f p env slots ∷ k.frames) r) s t (left r) 0 0 x size → GoesO library K 0 0 (valued k (suc p) env slots) k env slots s t x size r
+  pub called_sim : (k : Site) (p : ℕ) (env : Locals) (slots : List Slot) (s : State) (t x size : ℕ) (r : Out Val) → Falls k env slots slots → map (remark (suc p)) k.frame.entries ≡ k.frame.entries
+      → GoesIn library K (LandsU Called (at k.frame p env slots ∷ k.waiting) r) s t (left_e r) 0 0 x size → GoesO library K 0 0 (valued k (suc p) env slots) k env slots s t x size r
   called_sim k p env slots s t x size (EVal v t1 w) same quiet g = g_map library K _ _ s t t1 0 0 x size (λ u l. l ∙ went k p (suc p) env slots (Value v ∷ slots) w quiet) g
   called_sim k p env slots s t x size (EExc y t1 w) same quiet g = g_map library K _ _ s t t1 0 0 x size (λ u l. l ∙ same y p w) g
   called_sim k p env slots s t x size (EOpen w) same quiet g = g
@@ -71,11 +74,11 @@ module _ (library : Library) (K : ℕ) where
 -- both sides run the text of a source
 abbrev pub source_site : {library : Library} {K : ℕ} (file name : Name) (names base depth : ℕ) (source : Source) → IsText library K name base (module_text file source base) → Role → List Frame → Site
 source_site file name names base depth source is role frames = record {
-  g = unit_frame file name names base depth source.level;
-  c = record { lines = is.own.lines; level = source.level; is_module = is.is_module; locals = []; children = is.own.children; base = 0; codes = is.all };
-  f = new_frame name base is.code [] names role;
-  frames = frames;
-  m = is.m;
+  meant = unit_frame file name names base depth source.level;
+  context = record { lines = is.own.lines; level = source.level; is_module = is.is_module; locals = []; children = is.own.children; base = 0; codes = is.all };
+  frame = new_frame name base is.code [] names role;
+  waiting = frames;
+  holder = is.m;
   code = is.code;
 }
 
@@ -104,27 +107,27 @@ module _ (program : Program) (library : Library) (K : ℕ) (some : 1 ≤ K) (n :
     }
 
     over_sim : (d : Done) (env : Locals) (t : ℕ) (w : PlainWorld)
-        → Goes library K (LandsU role frames (call_done d t w)) (state_of k (whole is.stands.last) is.stands.last [] d env w) t (left (call_done d t w)) 0 0 2 0
+        → GoesIn library K (LandsU role frames (call_done d t w)) (state_of k (whole is.stands.last) is.stands.last [] d env w) t (left_e (call_done d t w)) 0 0 2 0
     over_sim Normal env t w = ended library K k is.stands.last env w _ t t 0 0 0 0 sited refl is.stands.none is.stands.return (g_here library K _ _ t refl)
     over_sim Broke env t w = ended library K k is.stands.last env w _ t t 0 0 0 0 sited refl is.stands.none is.stands.return (g_here library K _ _ t refl)
     over_sim Continued env t w = ended library K k is.stands.last env w _ t t 0 0 0 0 sited refl is.stands.none is.stands.return (g_here library K _ _ t refl)
     over_sim (Returned v) env t w = g_wide library K _ _ t t 0 0 0 0 0 2 0 0 (omega arith) (omega arith) (g_here library K _ _ t refl)
     over_sim (Raised x) env t w = g_wide library K _ _ t t 0 0 0 0 0 2 0 0 (omega arith) (omega arith) (g_here library K _ _ t refl)
 
-    body_over : (s : State) (t size : ℕ) (r : SOut) → GoesS library K 0 k (whole is.stands.last) is.stands.last [] s t 0 size r → Goes library K (LandsU role frames (from_body r)) s t (left (from_body r)) 0 0 2 size
-    body_over s t size (SDone d env t1 w) g = g_bind library K _ s _ t t1 (left (call_done d t1 w)) (if_normal 0 (SDone d env t1 w)) 0 0 0 0 2 2 size 0 size (omega arith) (omega arith) g (over_sim d env t1 w)
+    body_over : (s : State) (t size : ℕ) (r : SOut) → GoesS library K 0 k (whole is.stands.last) is.stands.last [] s t 0 size r → GoesIn library K (LandsU role frames (from_body r)) s t (left_e (from_body r)) 0 0 2 size
+    body_over s t size (SDone d env t1 w) g = g_bind library K _ s _ t t1 (left_e (call_done d t1 w)) (if_normal 0 (SDone d env t1 w)) 0 0 0 0 2 2 size 0 size (omega arith) (omega arith) g (over_sim d env t1 w)
     body_over s t size (SOpen w) g = g_wide library K _ s t 0 0 0 0 0 0 2 size size (omega arith) (omega arith) g
     body_over s t size (SFull e t1 w) g = g_wide library K _ s t t1 0 0 0 0 0 2 size size (omega arith) (omega arith) g
 
     -- the code of a source
     source_sim : (t : ℕ) (w : PlainWorld) → t ≤ n
         → let r = run_unit (sem program n).exec file name names (Single source) base depth t w in
-        Goes library K (LandsU role frames r) (Running 0 (new_frame name base is.code [] names role) frames w) t (left r) 0 0 2 K
+        GoesIn library K (LandsU role frames r) (Running 0 (new_frame name base is.code [] names role) frames w) t (left_e r) 0 0 2 K
     source_sim t w le =
         let r = run_unit (sem program n).exec file name names (Single source) base depth t w in
-        let begin : Running 0 (new_frame name base is.code [] names role) frames w ≡ Running 0 (at k.f 0 [] []) frames w = ap (λ c. Running 0 (at k.f 0 (replicate (c - 0) None) []) frames w) (text_locals is) in
-        subst (λ s. Goes library K (LandsU role frames r) s t (left r) 0 0 2 K) (sym begin)
-        (g_wide library K _ _ t (left r) 0 0 0 0 2 2 (bsize source.body) K (omega arith) (omega (arith, is.small))
+        let begin : Running 0 (new_frame name base is.code [] names role) frames w ≡ Running 0 (at k.frame 0 [] []) frames w = ap (λ c. Running 0 (at k.frame 0 (replicate (c - 0) None) []) frames w) (text_locals is) in
+        subst (λ s. GoesIn library K (LandsU role frames r) s t (left_e r) 0 0 2 K) (sym begin)
+        (g_wide library K _ _ t (left_e r) 0 0 0 0 2 2 (bsize source.body) K (omega arith) (omega (arith, is.small))
         (body_over _ t (bsize source.body) _
         (b_sim program library K n ihs k [] [] (whole is.stands.last) 0 source.body is.stands.last [] t w sited is.stands.body (record { quiet = λ r l h. refl; fits = tt; kept = refl; iter = tt }) is.small le)))
 
@@ -164,7 +167,7 @@ module _ (program : Program) (library : Library) (K : ℕ) (some : 1 ≤ K) (n :
       → Falls k env slots slots → x1 + x2 ≤ x → x1 ≤ x → size1 + size2 ≤ size + owed1 → size1 ≤ size → Knows P r → GoesO library K 0 owed1 v1 k env slots s t x1 size1 r
       → ((a : Val) (t1 : ℕ) (w1 : PlainWorld) → P a w1 → t1 ≤ t → GoesO library K 0 owed v k env slots (v1 a w1) t1 x2 size2 (nx a t1 w1)) → GoesO library K 0 owed v k env slots s t x size (e_then r nx)
   bind_is owed owed1 v1 v k env slots s t x1 x2 x size1 size2 size P (EVal a t1 w) nx same xs xw ss sw p g h =
-      g_then library K _ s (v1 a w) t t1 (left (nx a t1 w)) 0 (if_value 0 (nx a t1 w)) owed1 (if_value owed (nx a t1 w)) x1 x2 x size1 size2 size (omega (arith, xs)) ss g (λ le. h a t1 w p le)
+      g_then library K _ s (v1 a w) t t1 (left_e (nx a t1 w)) 0 (if_value 0 (nx a t1 w)) owed1 (if_value owed (nx a t1 w)) x1 x2 x size1 size2 size (omega (arith, xs)) ss g (λ le. h a t1 w p le)
   bind_is owed owed1 v1 v k env slots s t x1 x2 x size1 size2 size P (EExc y t1 w) nx same xs xw ss sw p g h =
       g_wide library K _ s t t1 0 0 0 0 x1 x size1 size (omega (arith, xw)) (omega (arith, sw)) (g_map library K _ _ s t t1 0 0 x1 size1 (λ u l. l ∙ same y 0 w) g)
   bind_is owed owed1 v1 v k env slots s t x1 x2 x size1 size2 size P (EOpen w) nx same xs xw ss sw p g h = g_wide library K _ s t 0 0 0 0 0 x1 x size1 size (omega (arith, xw)) (omega (arith, sw)) g
@@ -175,29 +178,29 @@ module _ (program : Program) (library : Library) (K : ℕ) (some : 1 ≤ K) (n :
     UnitGoes u base depth =
         (role : Role) (frames : List Frame) → depth ≡ suc (length frames) → (code : Code) → code_at library name base ≡ Some code → (t : ℕ) (w : PlainWorld) → t ≤ n
         → let r = run_unit (sem program n).exec file name names u base depth t w in
-        Goes library K (LandsU role frames r) (Running 0 (new_frame name base code [] names role) frames w) t (left r) 0 0 2 K
+        GoesIn library K (LandsU role frames r) (Running 0 (new_frame name base code [] names role) frames w) t (left_e r) 0 0 2 K
 
     -- both sides run a merge's own code
     module _ (base depth : ℕ) (m : Module) (code : Code) (role : Role) (frames : List Frame) (ls : Locals) where
       abbrev outer : Site
       outer = record {
-        g = unit_frame file name names base depth 0;
-        c = record { lines = code.lines; level = 0; is_module = true; locals = []; children = []; base = 0; codes = [] };
-        f = new_frame name base code ls names role;
-        frames = frames;
-        m = m;
+        meant = unit_frame file name names base depth 0;
+        context = record { lines = code.lines; level = 0; is_module = true; locals = []; children = []; base = 0; codes = [] };
+        frame = new_frame name base code ls names role;
+        waiting = frames;
+        holder = m;
         code = code;
       }
 
       abbrev standing : (p : ℕ) → (env : Locals) → List Slot → PlainWorld → State
-      standing p env slots w = Running 0 (at outer.f p env slots) frames w
+      standing p env slots w = Running 0 (at outer.frame p env slots) frames w
 
       module _ (s : Sited library outer) (deep : depth ≡ suc (length frames)) (env : Locals) where
         falls : (slots0 slots : List Slot) → Falls outer env slots0 slots
         falls slots0 slots x p w = refl
 
         -- a part is done, and its value is dropped
-        part_over : (p : ℕ) (st : State) (t : ℕ) (r : Out Val) → OnLine1 code (suc (suc p)) (plain ops.PopTop) → Goes library K (LandsU Called (at outer.f (suc p) env [] ∷ frames) r) st t (left r) 0 0 2 K
+        part_over : (p : ℕ) (st : State) (t : ℕ) (r : Out Val) → OnLine1 code (suc (suc p)) (plain ops.PopTop) → GoesIn library K (LandsU Called (at outer.frame (suc p) env [] ∷ frames) r) st t (left_e r) 0 0 2 K
             → GoesO library K 0 K (λ v w. standing (suc (suc (suc p))) env [] w) outer env [] st t 3 (K + K) r
         part_over p st t (EVal v t1 w) h g =
             g_bind library K _ st (standing (suc (suc p)) env (Value v ∷ []) w) t t1 t1 0 0 0 K 2 1 3 K K (K + K) (omega arith) (omega arith) g
@@ -207,20 +210,20 @@ module _ (program : Program) (library : Library) (K : ℕ) (some : 1 ≤ K) (n :
         part_over p st t (EFull e t1 w) h g = g_wide library K _ st t t1 0 0 0 0 2 3 K (K + K) (omega arith) (omega arith) g
 
         module _ (p index child : ℕ) (is : IsCall code p index child) (head : IsHead library name child) where
-          make_is : (paid : ℕ) (w : PlainWorld) → item_step library (part_place file) paid (at outer.f p env []) frames w (number ops.MakeFunction index)
-              ≡ steps.gives library (part_place file) paid (at outer.f p env []) frames w [] (make_function w module_name name child names Nil)
+          make_is : (paid : ℕ) (w : PlainWorld) → item_step library (part_place file) paid (at outer.frame p env []) frames w (number ops.MakeFunction index)
+              ≡ steps.gives library (part_place file) paid (at outer.frame p env []) frames w [] (make_function w module_name name child names Nil)
           make_is paid w =
-              let f = at outer.f p env [] in
+              let f = at outer.frame p env [] in
               ap (λ o. steps.make library (part_place file) paid f frames w [] Nil (child_of library (part_place file) paid f frames w o index)) s.of_code
               ∙ ap (λ o. steps.make library (part_place file) paid f frames w [] Nil o) is.is
               ∙ ap (λ o. steps.made_function library (part_place file) paid f frames w child [] Nil o) head.of_code
               ∙ ap (λ x. steps.gives library (part_place file) paid f frames w [] (make_function w x name child names Nil)) head.name_is
 
           call_is : (fv : Val) (w : PlainWorld) (b : Bool) → IsFunction name child names fv w → has_depth frames ≡ b
-              → item_step library (part_place file) 0 (at outer.f (suc p) env (Value fv ∷ [])) frames w (number ops.CallFunction 0)
-              ≡ steps.entered library (part_place file) 0 (at outer.f (suc p) env (Value fv ∷ [])) frames w [] (record { module_name = name; code = child; names = names; defaults = Nil }) head.code [] b w
+              → item_step library (part_place file) 0 (at outer.frame (suc p) env (Value fv ∷ [])) frames w (number ops.CallFunction 0)
+              ≡ steps.entered library (part_place file) 0 (at outer.frame (suc p) env (Value fv ∷ [])) frames w [] (record { module_name = name; code = child; names = names; defaults = Nil }) head.code [] b w
           call_is fv w b made deep_is =
-              let f = at outer.f (suc p) env (Value fv ∷ []) in
+              let f = at outer.frame (suc p) env (Value fv ∷ []) in
               let fn : calling.Function = record { module_name = name; code = child; names = names; defaults = Nil } in
               ap (λ c. steps.run_callee library (part_place file) 0 f frames w [] c [] []) made
               ∙ ap (λ o. steps.run_code library (part_place file) 0 f frames w [] fn o [] []) head.of_code
@@ -233,8 +236,8 @@ module _ (program : Program) (library : Library) (K : ℕ) (some : 1 ≤ K) (n :
               (e_choose b (run_unit (sem program n).exec file name names u child (suc depth)) (λ t2 w2. e_fails (fault_at (part_place file) w2 TooDeep) t2) t w)
           entered_sim u goes fv t w made le true e =
               let r = run_unit (sem program n).exec file name names u child (suc depth) t w in
-              g_pay library K _ _ _ t (left r) (if_value 0 r) (if_value K r) 3 K K (omega arith) (stepped library outer 0 1 (suc p) (number ops.CallFunction 0) env (Value fv ∷ []) w s is.call ∙ call_is fv w true made e)
-              (part_over p _ t r is.pop (goes Called (at outer.f (suc p) env [] ∷ frames) (ap suc deep) head.code head.of_code t w le))
+              g_pay library K _ _ _ t (left_e r) (if_value 0 r) (if_value K r) 3 K K (omega arith) (stepped library outer 0 1 (suc p) (number ops.CallFunction 0) env (Value fv ∷ []) w s is.call ∙ call_is fv w true made e)
+              (part_over p _ t r is.pop (goes Called (at outer.frame (suc p) env [] ∷ frames) (ap suc deep) head.code head.of_code t w le))
           entered_sim u goes fv t w made le false e =
               o_wide library K 0 0 0 K (λ v w. standing (suc (suc (suc p))) env [] w) outer env [] _ t 1 4 0 K _ (omega arith) (omega arith) (omega arith) (omega arith)
               (g_step library K _ _ _ t _ _ _ 0 0 (stepped library outer 0 1 (suc p) (number ops.CallFunction 0) env (Value fv ∷ []) w s is.call ∙ call_is fv w false made e)
@@ -248,7 +251,7 @@ module _ (program : Program) (library : Library) (K : ℕ) (some : 1 ≤ K) (n :
               let v = λ (a : Val) (w1 : PlainWorld). standing (suc (suc (suc p))) env [] w1 in
               let same : has_depth frames ≡ nat_lt depth MAX_CALLS = ap (λ d. nat_lt d MAX_CALLS) (sym deep) in
               o_wide library K 8 0 K K v outer env [] _ t 0 0 1 1 _ (omega arith) (omega arith) (omega arith) (omega arith)
-              (o_turned library K K v outer env [] 0 (at outer.f p env []) t 0 w _
+              (o_turned library K K v outer env [] 0 (at outer.frame p env []) t 0 w _
               (λ t1 l1. o_wide library K 0 0 K K v outer env [] _ t1 5 8 0 0 _ (omega arith) (omega arith) (omega arith) (omega arith)
               (bind_is K K (λ fv w1. standing (suc p) env (Value fv ∷ []) w1) v outer env [] _ t1 1 4 5 0 K 0 (IsFunction name child names) _ _ (falls [] []) (omega arith) (omega arith) (omega arith) (omega arith)
               (function_made (part_place file) name module_name child names t1 w)
@@ -282,7 +285,7 @@ module _ (program : Program) (library : Library) (K : ℕ) (some : 1 ≤ K) (n :
 
       -- the parts are done
       merge_over : (us : Units) (q : ℕ) → Sited library outer → OnLine1 code q (plain ops.LoadConstNone) → OnLine1 code (suc q) (plain ops.ReturnValue) → (env : Locals) (st : State) (t : ℕ) (r : Out Val)
-          → GoesO library K 0 0 (λ v w. standing q env [] w) outer env [] st t 0 1 r → Goes library K (LandsU role frames (e_then r (λ done. EVal Nil))) st t (left (e_then r (λ done. EVal Nil))) 0 0 2 K
+          → GoesO library K 0 0 (λ v w. standing q env [] w) outer env [] st t 0 1 r → GoesIn library K (LandsU role frames (e_then r (λ done. EVal Nil))) st t (left_e (e_then r (λ done. EVal Nil))) 0 0 2 K
       merge_over us q s h1 h2 env st t (EVal v t1 w) g =
           g_bind library K _ st (standing q env [] w) t t1 t1 0 0 0 0 0 2 2 1 0 K (omega arith) (omega (arith, some)) g
           (o_goes library K _ outer 1 q (suc q) (plain ops.LoadConstNone) env [] (Value Nil ∷ []) t1 t1 0 0 1 0 w s h1 refl refl
@@ -298,7 +301,7 @@ module _ (program : Program) (library : Library) (K : ℕ) (some : 1 ≤ K) (n :
     merge_by : (base depth : ℕ) (units : Units) (is : IsOuter library file name base units) (role : Role) (frames : List Frame) → depth ≡ suc (length frames) → (ls : Locals)
         → PartsGo base depth is.m is.code role frames ls units 0 (suc base) is.last → (t : ℕ) (w : PlainWorld) → t ≤ n
         → let r = run_unit (sem program n).exec file name names (Merge units) base depth t w in
-        Goes library K (LandsU role frames r) (Running 0 (new_frame name base is.code ls names role) frames w) t (left r) 0 0 2 K
+        GoesIn library K (LandsU role frames r) (Running 0 (new_frame name base is.code ls names role) frames w) t (left_e r) 0 0 2 K
     merge_by base depth units is role frames deep ls goes t w le =
         let env = ls ++ replicate (is.code.locals - length ls) None in
         let s = sited_outer base depth is.m is.code role frames ls is.of_code is.of_module is.file_is is.name_is deep in
@@ -309,11 +312,11 @@ module _ (program : Program) (library : Library) (K : ℕ) (some : 1 ≤ K) (n :
       pub unit_sim : (base depth : ℕ) (u : programs.Unit) → IsUnit library K file name base u → UnitGoes u base depth
       unit_sim base depth (Single source) is role frames deep code e t w le =
           let r = run_unit (sem program n).exec file name names (Single source) base depth t w in
-          subst (λ c. Goes library K (LandsU role frames r) (Running 0 (new_frame name base c [] names role) frames w) t (left r) 0 0 2 K) (some_is is.code code (sym is.of_code ∙ e))
+          subst (λ c. GoesIn library K (LandsU role frames r) (Running 0 (new_frame name base c [] names role) frames w) t (left_e r) 0 0 2 K) (some_is is.code code (sym is.of_code ∙ e))
           (source_sim file name names base depth source is role frames deep t w le)
       unit_sim base depth (Merge units) is role frames deep code e t w le =
           let r = run_unit (sem program n).exec file name names (Merge units) base depth t w in
-          subst (λ c. Goes library K (LandsU role frames r) (Running 0 (new_frame name base c [] names role) frames w) t (left r) 0 0 2 K) (some_is is.0.code code (sym is.0.of_code ∙ e))
+          subst (λ c. GoesIn library K (LandsU role frames r) (Running 0 (new_frame name base c [] names role) frames w) t (left_e r) 0 0 2 K) (some_is is.0.code code (sym is.0.of_code ∙ e))
           (merge_by base depth units is.0 role frames deep [] (parts_sim base depth is.0.m is.0.code role frames [] units 0 0 (suc base) is.0.last is.0.calls is.1) t w le)
 
       parts_sim : (base depth : ℕ) (m : Module) (code : Code) (role : Role) (frames : List Frame) (ls : Locals) (us : Units) (p index child q : ℕ) → AreCalls code p index child us q → AreUnits library K file name child us
@@ -331,6 +334,6 @@ module _ (program : Program) (library : Library) (K : ℕ) (some : 1 ≤ K) (n :
 
     pub merge_sim : (base depth : ℕ) (units : Units) → (is : IsUnit library K file name base (Merge units)) → (role : Role) (frames : List Frame) → depth ≡ suc (length frames) → (ls : Locals) (t : ℕ) (w : PlainWorld) → t ≤ n
         → let r = run_unit (sem program n).exec file name names (Merge units) base depth t w in
-        Goes library K (LandsU role frames r) (Running 0 (new_frame name base is.0.code ls names role) frames w) t (left r) 0 0 2 K
+        GoesIn library K (LandsU role frames r) (Running 0 (new_frame name base is.0.code ls names role) frames w) t (left_e r) 0 0 2 K
     merge_sim base depth units is role frames deep ls t w le =
         merge_by base depth units is.0 role frames deep ls (parts_sim base depth is.0.m is.0.code role frames ls units 0 0 (suc base) is.0.last is.0.calls is.1) t w le

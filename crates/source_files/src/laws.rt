@@ -5,7 +5,7 @@ ghost use Rattle.mpy_reader.specs.mpy_tree.Raw.{Module};
 ghost use Rattle.mpy_compile.specs.Compiled.{CompilesTo};
 ghost use Rattle.library_files.specs.Comes.{IsVerifiedFile};
 
-use mpy_compile::{asked_law, resolved_law, tr_source, within_law};
+use mpy_compile::{asked_law, resolved_law, within_law};
 
 /// What a source compiles to is a file of a verified module.
 pub fn compiled_law()
