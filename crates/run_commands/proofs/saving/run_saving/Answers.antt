@@ -3,6 +3,7 @@ use Rattle.std.specs.Prelude.{◌≢◌, IfOk, IfErr, MatchOption}
 use Rattle.std.proofs.lemmas.Option.{slice_get_within}
 use Rattle.mpy_io.specs.Count.{Counts}
 use Rattle.bc_library.specs.mpy_tree.Raw.{Module}
+use Rattle.bc_library.specs.Shelf.{Named}
 use Rattle.command_files.specs.image_runs.Main.{IsMainAt}
 use Rattle.library_files.specs.Ends.{HoldsModules}
 use Rattle.library_runs.specs.declared.ending.RunEnd.{RunEnd}
@@ -37,7 +38,7 @@ returns-in-Some-clause-went g c =
     let end = c.run_for-end.result.0 in
     let ready = c.in-Ok.ready in
     let first = subst (λ (r : Result Ready Ending). IfOk r (λ ready. (m : Module) × IsMainAt ready.main ready.place m ready.library)) c.in-Ok.is c.requires.there in
-    let named = record { name = ready.main; held = first.0 } in
+    let named : Named = record { name = ready.main; held = first.0 } in
     let left = subst (λ (o : Option Vm). MatchOption o (end ≢ ends.Limit) (λ vm. (end ≡ ends.Limit) × StandsAt ready.library ready.main c.args.room c.args.steps old new vm)) c.in-Some.is (c.run_for-end.ensures.leaves named first.1) in
     let Comes = λ (r : Result Ready Ending). r ≡ c.args.loaded in
     let ran = c.run_for-end.ensures.runs named first.1 in
@@ -51,7 +52,7 @@ returns-in-Some-clause-flushed g c = λ s.
     let end = c.run_for-end.result.0 in
     let ready = c.in-Ok.ready in
     let first = subst (λ (r : Result Ready Ending). IfOk r (λ ready. (m : Module) × IsMainAt ready.main ready.place m ready.library)) c.in-Ok.is c.requires.there in
-    let named = record { name = ready.main; held = first.0 } in
+    let named : Named = record { name = ready.main; held = first.0 } in
     let left = subst (λ (o : Option Vm). MatchOption o (end ≢ ends.Limit) (λ vm. (end ≡ ends.Limit) × StandsAt ready.library ready.main c.args.room c.args.steps old new vm)) c.in-Some.is (c.run_for-end.ensures.leaves named first.1) in
     c.run_for-end.ensures.flushed (subst IsOver (sym left.0) tt)
 
@@ -62,7 +63,7 @@ returns-in-Some-clause-silent g c = λ s.
     let end = c.run_for-end.result.0 in
     let ready = c.in-Ok.ready in
     let first = subst (λ (r : Result Ready Ending). IfOk r (λ ready. (m : Module) × IsMainAt ready.main ready.place m ready.library)) c.in-Ok.is c.requires.there in
-    let named = record { name = ready.main; held = first.0 } in
+    let named : Named = record { name = ready.main; held = first.0 } in
     let left = subst (λ (o : Option Vm). MatchOption o (end ≢ ends.Limit) (λ vm. (end ≡ ends.Limit) × StandsAt ready.library ready.main c.args.room c.args.steps old new vm)) c.in-Some.is (c.run_for-end.ensures.leaves named first.1) in
     c.run_for-end.ensures.silent (ap speaks left.0)
 
@@ -73,7 +74,7 @@ returns-in-Some-clause-out_counts g c =
     let end = c.run_for-end.result.0 in
     let ready = c.in-Ok.ready in
     let first = subst (λ (r : Result Ready Ending). IfOk r (λ ready. (m : Module) × IsMainAt ready.main ready.place m ready.library)) c.in-Ok.is c.requires.there in
-    let named = record { name = ready.main; held = first.0 } in
+    let named : Named = record { name = ready.main; held = first.0 } in
     let left = subst (λ (o : Option Vm). MatchOption o (end ≢ ends.Limit) (λ vm. (end ≡ ends.Limit) × StandsAt ready.library ready.main c.args.room c.args.steps old new vm)) c.in-Some.is (c.run_for-end.ensures.leaves named first.1) in
     let quiet = saved_quiet ready.library c.in-Some.vm c.args.steps c.args.snap.now (g.F.Folder.files c.args.folder.now) (g.F.Folder.files c.save_state.new.folder) c.save_state.result c.save_state.ensures.saves in
     subst (λ (b : Bool). Counts (g.S.Sink.count c.args.out.now) (g.S.Sink.count c.run_for-end.new.out) b) (sym quiet)
@@ -89,7 +90,7 @@ returns-in-Ok-clause-went g c =
     let end = c.run_for-end.result.0 in
     let ready = c.in-Ok.ready in
     let first = subst (λ (r : Result Ready Ending). IfOk r (λ ready. (m : Module) × IsMainAt ready.main ready.place m ready.library)) c.in-Ok.is c.requires.there in
-    let named = record { name = ready.main; held = first.0 } in
+    let named : Named = record { name = ready.main; held = first.0 } in
     let files = g.F.Folder.files c.args.folder.now in
     let Comes = λ (r : Result Ready Ending). r ≡ c.args.loaded in
     let other = subst (λ (o : Option Vm). MatchOption o (end ≢ ends.Limit) (λ vm. (end ≡ ends.Limit) × StandsAt ready.library ready.main c.args.room c.args.steps old new vm)) c.in-None.is (c.run_for-end.ensures.leaves named first.1) in
