@@ -123,8 +123,8 @@ fn run_to<F: Folder, S: Sink, P: Port, E: Sink>(
     requires unloaded { IfErr loaded IsUnloaded }
     ensures went { (said : List ℕ)
         × RunsTo (saved_name (texts words.now) save) (λ ready. ready ≡ loaded) (room_of order) order.steps
-            (sight S.told P.seen outside.old.out outside.old.ports) (sight S.told P.seen outside.new.out outside.new.ports)
-            said (F.files outside.old.folder) (F.files outside.new.folder) result.ending
+        (sight S.told P.seen outside.old.out outside.old.ports) (sight S.told P.seen outside.new.out outside.new.ports)
+        said (F.files outside.old.folder) (F.files outside.new.folder) result.ending
         × Says (E.told outside.old.say) (E.told outside.new.say) (E.count outside.old.say) (E.count outside.new.say) said }
     ensures place { result.place ≡ place_to save result.ending }
     ensures flushed { IsRunStatus (status_of result.ending) → S.held outside.new.out ≡ [] }

@@ -232,10 +232,13 @@ module _ (room : Room) (steps : ℕ) (old new : Sight) (said snap : List ℕ) (f
     saving_known ReadFault r = (runs_known Comes room steps old new said Known known ReadFault r.0, r.1)
     saving_known WriteFault r = (runs_known Comes room steps old new said Known known WriteFault r.0, r.1)
     saving_known Unwritten r = suspends_known (λ shelf v. (bytes : List ℕ) × IsSaved bytes shelf v × BecomesFront files_old files_new snap bytes) r
-    saving_known NoMemory r = (elim r.0 [
-      | inl h ↦ inl h
-      | inr h ↦ inr (suspends_known (λ shelf v. Unit {0}) h)
-    ], r.1)
+    saving_known NoMemory r = (
+      elim r.0 [
+        | inl h ↦ inl h
+        | inr h ↦ inr (suspends_known (λ shelf v. Unit {0}) h)
+      ],
+      r.1,
+    )
     saving_known Absent r = (runs_known Comes room steps old new said Known known Absent r.0, r.1)
 
   -- no other file changed

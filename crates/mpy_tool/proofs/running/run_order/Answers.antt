@@ -38,9 +38,9 @@ returns-clause-ended g c =
     went.2 c.say_ending.ensures.line in
     let word = c.word_at-name.ensures ∙ (ap (λ (n : ℕ). slice_index_or call.words n []) c.run_to-ended.ensures.place ∙ named_by call.words save ending) in
     let reads = subst (Counts call.old.folder_faults call.new.folder_faults) c.run_to-ended.ensures.folder
-        (counts_to loaded call.old.folder_faults (g.F.Folder.count c.library_of-loaded.new.folder) call.new.folder_faults c.library_of-loaded.ensures.counts snap room order.steps (sight_in call.old call.ports_old) (sight_in call.new call.ports_new) went.0 call.old.files call.new.files ending ran c.run_to-ended.ensures.unwritten) in
+    (counts_to loaded call.old.folder_faults (g.F.Folder.count c.library_of-loaded.new.folder) call.new.folder_faults c.library_of-loaded.ensures.counts snap room order.steps (sight_in call.old call.ports_old) (sight_in call.new call.ports_new) went.0 call.old.files call.new.files ending ran c.run_to-ended.ensures.unwritten) in
     let ended = ends_run_to snap room order.steps call.old call.new call.ports_old call.ports_new loaded ending went.0 ran Comes (first_name call.words) c.word_at-name.result.now c.status.result
-        c.status.ensures word c.library_of-loaded.ensures.comes reads c.run_to-ended.ensures.out_counts says in
+    c.status.ensures word c.library_of-loaded.ensures.comes reads c.run_to-ended.ensures.out_counts says in
     subst (λ (s : Option ℕ). EndsRunTo (saved_name call.words s) Comes room order.steps (first_name call.words) call.old call.new call.ports_old call.ports_new c.status.result) c.save_place-save.ensures ended
 
 pub returns-clause-flushed : goal.returns-clause-flushed

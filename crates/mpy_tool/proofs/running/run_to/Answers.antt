@@ -16,8 +16,8 @@ returns-in-Some-clause-went g c =
     let words = map string_bytes c.args.words.now in
     let went = c.run_saving-ending.ensures.went in
     let Went = λ (snap : Option (List ℕ)). RunsTo snap (λ (r : Result Ready Ending). r ≡ c.args.loaded) (room_of c.args.order) c.args.order.steps
-        (sight g.S.Sink.told g.P.Port.seen c.args.outside.now.out c.args.outside.now.ports) (sight g.S.Sink.told g.P.Port.seen c.run_saving-ending.new.out c.run_saving-ending.new.ports)
-        went.0 (g.F.Folder.files c.args.outside.now.folder) (g.F.Folder.files c.run_saving-ending.new.folder) c.run_saving-ending.result in
+    (sight g.S.Sink.told g.P.Port.seen c.args.outside.now.out c.args.outside.now.ports) (sight g.S.Sink.told g.P.Port.seen c.run_saving-ending.new.out c.run_saving-ending.new.ports)
+    went.0 (g.F.Folder.files c.args.outside.now.folder) (g.F.Folder.files c.run_saving-ending.new.folder) c.run_saving-ending.result in
     (went.0, subst Went (ap (λ (s : List ℕ). Some s) c.word_at.ensures ∙ ap (saved_name words) (sym c.in-Some.is)) went.1, went.2)
 
 pub returns-in-None-clause-went : goal.returns-in-None-clause-went
@@ -26,8 +26,8 @@ returns-in-None-clause-went g c =
     let went = c.run_loaded.ensures.went in
     let files = g.F.Folder.files c.args.outside.now.folder in
     let Went = λ (snap : Option (List ℕ)). RunsTo snap (λ (r : Result Ready Ending). r ≡ c.args.loaded) (room_of c.args.order) c.args.order.steps
-        (sight g.S.Sink.told g.P.Port.seen c.args.outside.now.out c.args.outside.now.ports) (sight g.S.Sink.told g.P.Port.seen c.run_loaded.new.out c.run_loaded.new.ports)
-        went.0 files files c.run_loaded.result in
+    (sight g.S.Sink.told g.P.Port.seen c.args.outside.now.out c.args.outside.now.ports) (sight g.S.Sink.told g.P.Port.seen c.run_loaded.new.out c.run_loaded.new.ports)
+    went.0 files files c.run_loaded.result in
     (went.0, subst Went (ap (saved_name words) (sym c.in-None.is)) (went.1, refl), went.2)
 
 pub returns-in-None-clause-unwritten : goal.returns-in-None-clause-unwritten
