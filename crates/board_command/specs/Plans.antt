@@ -1,5 +1,5 @@
 -- The plan of a file, or what keeps it from being one.
-use Rattle.std.specs.Prelude.{◌≡◌, ◌⊎◌, ℕ, ◌<◌, List, length, Option, Some, None, IfSome}
+use Rattle.std.specs.Prelude.{◌≡◌, ◌⊎◌, ℕ, ◌<◌, ◌≤◌, List, length, Option, Some, None, IfSome}
 use Rattle.mpy_base.specs.declared.limits.TheConstants.{MAX_READ_BYTES}
 use Rattle.mpy_io.specs.Files.{FileOf}
 use Rattle.board_plan.specs.declared.plan.Plan.{Plan}
@@ -12,16 +12,18 @@ use Rattle.command_files.specs.mpy_endings.declared.ending.Ending.TheVariants.{D
 use Rattle.command_files.specs.mpy_endings.declared.ending.BoardFault.TheVariants as boards
 use Rattle.command_files.specs.Folder.{MayHold}
 
--- the lines of the file under the name are the plan
+-- the lines of the file under the name, which can be read, are the plan
 pub record HoldsPlan (files : Option FileOf) (name : List ℕ) (plan : Plan) : Type 0 where
   pub bytes : List ℕ
   pub holds : MayHold files name (Some bytes)
+  pub short : length bytes ≤ MAX_READ_BYTES
   pub is_plan : IsPlan (lines_of bytes) plan
 
--- the lines of the file under the name have this first fault
+-- the lines of the file under the name, which can be read, have this first fault
 pub record HoldsNoPlan (files : Option FileOf) (name : List ℕ) (fault : PlanFault) : Type 0 where
   pub bytes : List ℕ
   pub holds : MayHold files name (Some bytes)
+  pub short : length bytes ≤ MAX_READ_BYTES
   pub has : HasFault (lines_of bytes) fault
 
 -- the file under the name is too long to be read

@@ -1,5 +1,6 @@
 -- The library of an image file over a library below, or what keeps it from being one.
-use Rattle.std.specs.Prelude.{ℕ, List, Option, Some}
+use Rattle.std.specs.Prelude.{◌≤◌, ℕ, List, length, Option, Some}
+use Rattle.mpy_base.specs.declared.limits.TheConstants.{MAX_READ_BYTES}
 use Rattle.mpy_io.specs.Files.{FileOf}
 use Rattle.mpy_endings.specs.image_open.bc_library.Shelf.{Shelf}
 use Rattle.mpy_endings.specs.image_open.image_grammar.declared.fault.ImageFault.{ImageFault}
@@ -17,10 +18,11 @@ pub record HoldsImage (below : Shelf) (files : Option FileOf) (name : List ℕ) 
   pub holds : MayHold files name (Some bytes)
   pub opens : Opens below bytes shelf
 
--- the file under the name is no such image: this is the first fault of its bytes
+-- the file under the name, which can be read, is no such image: this is the first fault of its bytes
 pub record HoldsNoImage (below : Shelf) (files : Option FileOf) (name : List ℕ) (fault : ImageFault) : Type 0 where
   pub bytes : List ℕ
   pub holds : MayHold files name (Some bytes)
+  pub short : length bytes ≤ MAX_READ_BYTES
   pub first : FirstFault (base_of below) bytes fault
 
 -- why the file under the name isn't opened as an image over the library below

@@ -1,5 +1,6 @@
 -- How the migration of a file ends.
-use Rattle.std.proofs.Common.{◌≡◌, ℕ, List, [], ◌∷◌, ◌++◌, inl, inr, Option, Some, Result, Err, Vec, Global, refl, subst}
+use Rattle.std.proofs.Common.{◌≡◌, ◌≤◌, ℕ, List, [], ◌∷◌, ◌++◌, length, inl, inr, Option, Some, Result, Err, Vec, Global, refl, subst}
+use Rattle.mpy_base.specs.declared.limits.TheConstants.{MAX_READ_BYTES}
 use Rattle.mpy_base.specs.declared.refused.Refused.{Refused}
 use Rattle.mpy_base.specs.declared.refused.Refused.TheVariants as refusals
 use Rattle.mpy_io.specs.Files.{FileOf}
@@ -47,12 +48,12 @@ only_big entries bytes BadBase is h = absurd h
 abbrev answers : Refused MigrateFault → Result (Vec ℕ Global) (Refused MigrateFault)
 answers refusal = Err refusal
 
-module _ (name written bytes read : List ℕ) (old new : Option FileOf) (holds : MayHold old name (Some bytes)) (is_read : read ≡ bytes) where
+module _ (name written bytes read : List ℕ) (old new : Option FileOf) (holds : MayHold old name (Some bytes)) (short : length bytes ≤ MAX_READ_BYTES) (is_read : read ≡ bytes) where
   pub unmigrated : (refusal : Refused MigrateFault) → new ≡ old → ((fault : ImageFault) → answers refusal ≡ Err (refusals.Fault (Opening fault)) → FirstFault nothing_below read fault)
       → ((fault : ImageFault) → answers refusal ≡ Err (refusals.Fault (Freezing fault)) → (entries : List Entry) × IsImageOf entries read × FreezeFault (second_front nothing_below) nothing_below entries fault)
       → Migrates name written old new (refused_end refusal)
   unmigrated (refusals.Fault (Opening fault)) same opening freezing =
-      (record { bytes = bytes; holds = holds; first = subst (λ (b : List ℕ). FirstFault nothing_below b fault) is_read (opening fault refl) }, same)
+      (record { bytes = bytes; holds = holds; short = short; first = subst (λ (b : List ℕ). FirstFault nothing_below b fault) is_read (opening fault refl) }, same)
   unmigrated (refusals.Fault (Freezing fault)) same opening freezing =
       let h = freezing fault refl in
       let big = only_big h.0 read fault h.1 h.2 in

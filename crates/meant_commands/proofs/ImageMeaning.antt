@@ -62,12 +62,12 @@ module _ (all : List Sources) (sources : Sources) (below : Shelf) (files : FileO
     pub image_program : (ready : Ready) → RunLibrary below main (Some files) image (Ok ready) → (program : Program) × IsProgramOf (sources ∷ all) main program
     image_program ready (not_read ending k e) = absurd cc
     image_program ready (of_file bytes there other k) = absurd (no_module bytes there other)
-    image_program ready (of_image bytes there begins_so k) = o.program (sources ∷ all) main ready.library ready.place (library bytes ready.library there k.0.opens) k.0.found
+    image_program ready (of_image bytes there short begins_so k) = o.program (sources ∷ all) main ready.library ready.place (library bytes ready.library there k.0.opens) k.0.found
 
     pub image_holds : (program : Program) → IsProgramOf (sources ∷ all) main program → HoldsProgram (RunLibrary below main) (Some files) image program
     image_holds program its ready (not_read ending k e) = absurd cc
     image_holds program its ready (of_file bytes there other k) = absurd (no_module bytes there other)
-    image_holds program its ready (of_image bytes there begins_so k) =
+    image_holds program its ready (of_image bytes there short begins_so k) =
         (its.main_name_is ∙ sym k.1, o.units (sources ∷ all) main ready.library (library bytes ready.library there k.0.opens) program its)
 
 -- what commands make

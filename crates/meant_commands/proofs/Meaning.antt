@@ -259,7 +259,7 @@ pub file_holds : (below : Shelf) (files : FileOf) (name main : List ℕ) (progra
     → HoldsProgram (RunLibrary below main) (Some files) name program
 file_holds below files name main program known is_file ready (not_read ending h e) = absurd cc
 file_holds below files name main program known is_file ready (of_file bytes there other h) = let k = known ready.library h.0 in (k.0 ∙ sym h.1.main_is, k.1)
-file_holds below files name main program known is_file ready (of_image bytes there begins h) =
+file_holds below files name main program known is_file ready (of_image bytes there short begins h) =
     let file = is_file bytes there in
     absurd (begins_other bytes _ file.1.spelling.text_is begins)
 

@@ -1,6 +1,7 @@
 -- What keeps the file that is to be run from being read, and what its bytes come to.
-use Rattle.std.proofs.Common.{◌≡◌, ℕ, Bool, true, false, List, Option, Some, IfSome, Result, Ok, Err, refl, sym, ap, subst, ◌∙◌}
+use Rattle.std.proofs.Common.{◌≡◌, ◌≤◌, ℕ, Bool, true, false, List, length, Option, Some, IfSome, Result, Ok, Err, refl, sym, ap, subst, ◌∙◌}
 use Rattle.std.specs.Prelude.{IfOk, IfErr}
+use Rattle.mpy_base.specs.declared.limits.TheConstants.{MAX_READ_BYTES}
 use Rattle.mpy_io.specs.Files.{FileOf}
 use Rattle.bc_library.specs.Shelf.{Shelf}
 use Rattle.command_files.specs.mpy_endings.declared.ending.Ending.{Ending}
@@ -79,9 +80,9 @@ module _ (below : Shelf) (main bytes : List ℕ) where
   image_counted (Err ending) h = (image_refused ending h).1
 
 module _ (below : Shelf) (main : List ℕ) (files : Option FileOf) (name bytes read : List ℕ) (begins : Bool) (result : Result Ready Ending) where
-  pub image_run : (word : List ℕ) → read ≡ bytes → word ≡ main → MayHold files name (Some bytes) → begins ≡ begins_image read → begins ≡ true → ImageStart below word read result → RunLibrary below main files name result
-  image_run word e f holds is true_is h =
-      of_image bytes holds (sym (is ∙ ap begins_image e) ∙ true_is)
+  pub image_run : (word : List ℕ) → read ≡ bytes → word ≡ main → MayHold files name (Some bytes) → length bytes ≤ MAX_READ_BYTES → begins ≡ begins_image read → begins ≡ true → ImageStart below word read result → RunLibrary below main files name result
+  image_run word e f holds short is true_is h =
+      of_image bytes holds short (sym (is ∙ ap begins_image e) ∙ true_is)
       (subst (λ (m : List ℕ). ImageStart below m bytes result) f (subst (λ (b : List ℕ). ImageStart below word b result) e h))
 
   pub file_run : read ≡ bytes → MayHold files name (Some bytes) → begins ≡ begins_image read → begins ≡ false → FirstOf (FileLibrary files name) result → RunLibrary below main files name result

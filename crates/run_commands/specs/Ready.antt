@@ -1,5 +1,6 @@
 -- Which library a command has, and its main module.
-use Rattle.std.specs.Prelude.{◌≡◌, ℕ, Bool, true, false, List, [], ◌∷◌, length, ◌==◌, ◌&&◌, Option, Some, Result, Ok, Err}
+use Rattle.std.specs.Prelude.{◌≡◌, ◌≤◌, ℕ, Bool, true, false, List, [], ◌∷◌, length, ◌==◌, ◌&&◌, Option, Some, Result, Ok, Err}
+use Rattle.mpy_base.specs.declared.limits.TheConstants.{MAX_READ_BYTES}
 use Rattle.mpy_io.specs.Files.{FileOf}
 use Rattle.bc_library.specs.mpy_tree.Raw.{Module}
 use Rattle.bc_library.specs.mpy_tree.File.{IsFile}
@@ -62,9 +63,9 @@ ImageStart below main bytes (Err WriteFault) = ⊥
 ImageStart below main bytes (Err Unwritten) = ⊥
 ImageStart below main bytes (Err Absent) = ⊥
 
--- the library of the file under the name: of an image over the library below where its bytes begin as one, with the main module of that
+-- the library of the file under the name: of an image over the library below where its bytes, which can be read, begin as one, with the main module of that
 -- name, and else of a file, which has no use for what lies below. Or what keeps it from being run
 pub data RunLibrary (below : Shelf) (main : List ℕ) (files : Option FileOf) (name : List ℕ) (answer : Result Ready Ending) : Type 0 where
   not_read : (ending : Ending) → IsNotRead files name ending → answer ≡ Err ending → RunLibrary below main files name answer
   of_file : (bytes : List ℕ) → MayHold files name (Some bytes) → begins_image bytes ≡ false → FirstOf (FileLibrary files name) answer → RunLibrary below main files name answer
-  of_image : (bytes : List ℕ) → MayHold files name (Some bytes) → begins_image bytes ≡ true → ImageStart below main bytes answer → RunLibrary below main files name answer
+  of_image : (bytes : List ℕ) → MayHold files name (Some bytes) → length bytes ≤ MAX_READ_BYTES → begins_image bytes ≡ true → ImageStart below main bytes answer → RunLibrary below main files name answer

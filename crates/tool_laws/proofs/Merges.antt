@@ -1,16 +1,17 @@
 -- The command that merges files.
-use Rattle.std.proofs.Common.{◌≡◌, ◌⊎◌, inl, inr, ℕ, zero, suc, ◌+◌, ◌<◌, List, [], ◌∷◌, length, take, get_or, Option, Some, None, refl, sym, ap, subst, ◌∙◌, arith}
+use Rattle.std.proofs.Common.{◌≡◌, ◌⊎◌, inl, inr, ℕ, zero, suc, ◌<◌, List, [], ◌∷◌, length, take, get_or, Option, Some, refl, sym, ap, subst, ◌∙◌, arith}
 use Rattle.std.specs.List.{AllZip}
-use Rattle.file_commands.specs.mpy_io.Files.{FileOf}
-use Rattle.file_commands.specs.mpy_writer.mpy_tree.Raw.{Module}
-use Rattle.file_commands.specs.mpy_merge.declared.fault.MergeFault.{MergeFault}
-use Rattle.file_commands.specs.mpy_merge.Faults.{FirstFault}
-use Rattle.file_commands.proofs.mpy_merge_lemmas.Once.{one_beside}
-use Rattle.file_commands.specs.mpy_endings.declared.ending.Ending.{Ending}
-use Rattle.file_commands.specs.mpy_endings.declared.ending.Ending.TheVariants.{Done, Unaccepted, Unread, Unverified, Unmerged, Unopened, Unfrozen, Unboarded, Different, Stopped, ReadFault, WriteFault, Unwritten, NoMemory, Absent}
-use Rattle.file_commands.specs.mpy_endings.Ending.{IsSettled}
-use Rattle.file_commands.specs.command_files.Opened.{HoldsModule, Refuses}
-use Rattle.file_commands.specs.Merge.{HoldMerged, HoldModules, HoldUnmerged, IsFirstRefused, Merges}
+use Rattle.mpy_io.specs.Files.{FileOf}
+use Rattle.mpy_tree.specs.Raw.{Module}
+use Rattle.mpy_merge.specs.declared.fault.MergeFault.{MergeFault}
+use Rattle.mpy_merge.specs.Faults.{FirstFault}
+use Rattle.mpy_merge.specs.Merged.{IsMerged}
+use Rattle.mpy_merge.proofs.Once.{one_beside}
+use Rattle.mpy_endings.specs.declared.ending.Ending.{Ending}
+use Rattle.mpy_endings.specs.declared.ending.Ending.TheVariants.{Done, Unaccepted, Unread, Unverified, Unmerged, Unopened, Unfrozen, Unboarded, Different, Stopped, ReadFault, WriteFault, Unwritten, NoMemory, Absent}
+use Rattle.mpy_endings.specs.Ending.{IsSettled}
+use Rattle.command_files.specs.Opened.{HoldsModule, Refuses}
+use Rattle.meant_commands.specs.file_commands.Merge.{HoldMerged, HoldModules, HoldUnmerged, IsFirstRefused, Merges}
 use Rattle.tool_laws.specs.Laws.{FileLaws}
 use Rattle.tool_laws.specs.Once.{EndOnce, IsDone}
 use Rattle.tool_laws.proofs.Opened.{never_refused, one_held, one_refused, refused_of}
@@ -111,6 +112,10 @@ module _ (laws : FileLaws) (files : FileOf) (names : List (List ℕ)) where
     pub one_merge : (written : List ℕ) (a b : Option FileOf) (place another : ℕ) → EndOnce (Merges names written (Some files) a place) (Merges names written (Some files) b another)
     one_merge written a b place another = λ one other s t p q.
         both_merged place another one other s t (merged_so written a place one s p) (merged_so written b another other t q)
+
+  pub one_merged : ((modules : List Module) (one other : List ℕ) → IsMerged modules one → IsMerged modules other → one ≡ other) → (one other : List ℕ)
+      → HoldMerged (Some files) names one → HoldMerged (Some files) names other → one ≡ other
+  one_merged law one other h k = law k.modules one other (subst (λ (ms : List Module). IsMerged ms one) (one_hold h.modules k.modules h.hold k.hold) h.merged) k.merged
 
   pub merge_done : (written : List ℕ) (modules : List Module) (after : Option FileOf) (place : ℕ) → HoldModules (Some files) names modules
       → ((fault : MergeFault) → FirstFault modules fault → ⊥) → IsDone (Merges names written (Some files) after place)

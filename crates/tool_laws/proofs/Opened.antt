@@ -1,16 +1,16 @@
 -- What the file of a name comes to, in a folder that tells its files.
 use Rattle.std.proofs.Common.{◌≡◌, ◌⊎◌, inl, inr, ℕ, List, Option, Some, None, refl, sym, ap, subst, ◌∙◌}
-use Rattle.file_commands.specs.mpy_io.Files.{FileOf}
-use Rattle.file_commands.specs.mpy_writer.mpy_tree.Raw.{Module}
-use Rattle.file_commands.specs.mpy_writer.mpy_tree.File.{IsFile}
+use Rattle.mpy_io.specs.Files.{FileOf}
+use Rattle.mpy_tree.specs.Raw.{Module}
+use Rattle.mpy_tree.specs.File.{IsFile}
 use Rattle.mpy_reader.specs.declared.fault.FileFault.{FileFault}
 use Rattle.mpy_reader.specs.Reading.{FirstFault}
 use Rattle.bc_verify.specs.declared.fault.VerifyFault.{VerifyFault}
-use Rattle.bc_verify.specs.Verified.{IsVerified, IsFirstFault}
-use Rattle.file_commands.specs.mpy_endings.declared.ending.Ending.{Ending}
-use Rattle.file_commands.specs.mpy_endings.declared.ending.Ending.TheVariants.{Done, Unaccepted, Unread, Unverified, Unmerged, Unopened, Unfrozen, Unboarded, Different, Stopped, ReadFault, WriteFault, Unwritten, NoMemory, Absent}
-use Rattle.file_commands.specs.mpy_endings.Ending.{IsSettled}
-use Rattle.file_commands.specs.command_files.Opened.{HoldsModule, Refuses}
+use Rattle.bc_verify.specs.Verified.{IsFirstFault}
+use Rattle.mpy_endings.specs.declared.ending.Ending.{Ending}
+use Rattle.mpy_endings.specs.declared.ending.Ending.TheVariants.{Done, Unaccepted, Unread, Unverified, Unmerged, Unopened, Unfrozen, Unboarded, Different, Stopped, ReadFault, WriteFault, Unwritten, NoMemory, Absent}
+use Rattle.mpy_endings.specs.Ending.{IsSettled}
+use Rattle.command_files.specs.Opened.{HoldsModule, Refuses}
 use Rattle.tool_laws.specs.Laws.{FileLaws}
 
 pub record AtUnread (files : FileOf) (name : List ℕ) (ending : Ending) : Type 0 where

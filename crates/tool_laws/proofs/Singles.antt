@@ -1,16 +1,15 @@
 -- Commands that read one file.
-use Rattle.std.proofs.Common.{◌≡◌, ◌⊎◌, ◌++◌, inl, inr, ℕ, List, Option, Some, None, refl, sym, ap, subst, ◌∙◌}
+use Rattle.std.proofs.Common.{◌≡◌, ◌⊎◌, inl, inr, ℕ, List, Option, Some, None, refl, sym, ap, subst, ◌∙◌}
 use Rattle.std.specs.Io.KnownBytes.{Appends}
-use Rattle.file_commands.specs.mpy_io.Files.{FileOf}
-use Rattle.file_commands.specs.mpy_writer.mpy_tree.Raw.{Module}
-use Rattle.file_commands.specs.mpy_writer.mpy_tree.File.{IsFile}
+use Rattle.mpy_io.specs.Files.{FileOf}
+use Rattle.mpy_tree.specs.Raw.{Module}
 use Rattle.mpy_dump.specs.Listing.{IsListing}
-use Rattle.file_commands.specs.mpy_endings.declared.ending.Ending.{Ending}
-use Rattle.file_commands.specs.mpy_endings.declared.ending.Ending.TheVariants.{Done, Unaccepted, Unread, Unverified, Unmerged, Unopened, Unfrozen, Unboarded, Different, Stopped, ReadFault, WriteFault, Unwritten, NoMemory, Absent}
-use Rattle.file_commands.specs.mpy_endings.Ending.{IsSettled}
-use Rattle.file_commands.specs.command_files.Opened.{HoldsModule}
-use Rattle.file_commands.specs.Check.{Checks, HoldsVerified, count_of, verified_line}
-use Rattle.file_commands.specs.Dump.{Dumps, HoldsListed}
+use Rattle.mpy_endings.specs.declared.ending.Ending.{Ending}
+use Rattle.mpy_endings.specs.declared.ending.Ending.TheVariants.{Done, Unaccepted, Unread, Unverified, Unmerged, Unopened, Unfrozen, Unboarded, Different, Stopped, ReadFault, WriteFault, Unwritten, NoMemory, Absent}
+use Rattle.mpy_endings.specs.Ending.{IsSettled}
+use Rattle.command_files.specs.Opened.{HoldsModule}
+use Rattle.meant_commands.specs.file_commands.Check.{Checks, HoldsVerified, count_of, verified_line}
+use Rattle.meant_commands.specs.file_commands.Dump.{Dumps, HoldsListed}
 use Rattle.tool_laws.specs.Laws.{FileLaws}
 use Rattle.tool_laws.specs.Once.{EndOnce, IsDone}
 use Rattle.tool_laws.proofs.Opened.{AtAbsent, AtUnread, Refused, never_refused, never_unread, none_there, one_held, one_refused, refused_of, same_module, same_unread}
@@ -54,8 +53,8 @@ module _ (laws : FileLaws) where
   both_checked files name one other (inr x) (inl y) = absurd (never_refused laws files name y.1 one y.2 x)
   both_checked files name one other (inr x) (inr y) = one_refused laws files name one other x y
 
-  pub one_check : (files : FileOf) (name : List ℕ) (printed a b : Option (List ℕ)) → EndOnce (λ ending. Checks (Some files) name ending printed a) (λ ending. Checks (Some files) name ending printed b)
-  one_check files name printed a b = λ one other s t p q. both_checked files name one other (checked files name printed a one s p) (checked files name printed b other t q)
+  pub one_check : (files : FileOf) (name : List ℕ) (before behind printed after : Option (List ℕ)) → EndOnce (λ ending. Checks (Some files) name ending before behind) (λ ending. Checks (Some files) name ending printed after)
+  one_check files name before behind printed after = λ one other s t p q. both_checked files name one other (checked files name before behind one s p) (checked files name printed after other t q)
 
   pub check_done : (files : FileOf) (name : List ℕ) (count : ℕ) (before after : Option (List ℕ)) → HoldsVerified (Some files) name count → IsDone (λ ending. Checks (Some files) name ending before after)
   check_done files name count before after h = λ ending s p.
@@ -110,8 +109,8 @@ module _ (laws : FileLaws) where
   both_dumped files name one other (inr (inr x)) (inr (inl y)) = absurd (none_there (files name) y.bytes x.at y.at)
   both_dumped files name one other (inr (inr x)) (inr (inr y)) = x.is ∙ sym y.is
 
-  pub one_dump : (files : FileOf) (name : List ℕ) (printed a b : Option (List ℕ)) → EndOnce (λ ending. Dumps (Some files) name ending printed a) (λ ending. Dumps (Some files) name ending printed b)
-  one_dump files name printed a b = λ one other s t p q. both_dumped files name one other (dumped files name printed a one s p) (dumped files name printed b other t q)
+  pub one_dump : (files : FileOf) (name : List ℕ) (before behind printed after : Option (List ℕ)) → EndOnce (λ ending. Dumps (Some files) name ending before behind) (λ ending. Dumps (Some files) name ending printed after)
+  one_dump files name before behind printed after = λ one other s t p q. both_dumped files name one other (dumped files name before behind one s p) (dumped files name printed after other t q)
 
   pub dump_done : (files : FileOf) (name text : List ℕ) (before after : Option (List ℕ)) → HoldsListed (Some files) name text → IsDone (λ ending. Dumps (Some files) name ending before after)
   dump_done files name text before after h = λ ending s p.

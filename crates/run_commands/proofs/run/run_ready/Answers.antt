@@ -18,7 +18,7 @@ returns-in-Err-clause-unloaded g c = unread_unloaded (g.F.Folder.files c.args.fo
 pub returns-then-begins_image-clause-comes : goal.returns-then-begins_image-clause-comes
 returns-then-begins_image-clause-comes g c =
     image_run c.args.below.now c.args.main.now (g.F.Folder.files c.args.folder.now) c.args.name.now c.in-Ok.bytes.items c.deref-then-begins_image.result.now c.begins_image.result c.image_ready.result
-    c.as_bytes.result.now c.deref-then-begins_image.ensures.value c.as_bytes.ensures.value c.in-Ok.ensures.read (c.begins_image.ensures ∙ ap begins_image (c.deref.ensures.value ∙ sym c.deref-then-begins_image.ensures.value)) c.if-begins_image.true c.image_ready.ensures.start
+    c.as_bytes.result.now c.deref-then-begins_image.ensures.value c.as_bytes.ensures.value c.in-Ok.ensures.read c.in-Ok.ensures.short (c.begins_image.ensures ∙ ap begins_image (c.deref.ensures.value ∙ sym c.deref-then-begins_image.ensures.value)) c.if-begins_image.true c.image_ready.ensures.start
 
 pub returns-then-begins_image-clause-unloaded : goal.returns-then-begins_image-clause-unloaded
 returns-then-begins_image-clause-unloaded g c = image_unloaded c.args.below.now c.as_bytes.result.now c.deref-then-begins_image.result.now c.image_ready.result c.image_ready.ensures.start

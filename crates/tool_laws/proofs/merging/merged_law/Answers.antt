@@ -1,4 +1,4 @@
-use Rattle.file_commands.proofs.mpy_merge_lemmas.Ended.{one_fault, same_bytes}
+use Rattle.mpy_merge.proofs.Ended.{one_fault, same_bytes}
 use Rattle.tool_laws.proofs.merging.merged_law.Goals as goal
 
 pub returns : goal.returns

@@ -2,7 +2,7 @@
 
 ghost use Rattle.std.specs.Prelude.{◌≡◌};
 ghost use Rattle.mpy_merge.specs.qstr_pool.Static.{static_texts};
-ghost use Rattle.limit_laws.specs.Names.{known_names};
+ghost use Rattle.file_laws.specs.Names.{known_names};
 
 /// The table of names has those that are written out, in their order.
 pub fn names_law()
