@@ -7,7 +7,7 @@ use Rattle.manifest_files.specs.declared.frozen_fault.FrozenFault.TheVariants as
 use Rattle.mpy_endings.specs.declared.ending.BoardFault.TheVariants as boards
 use Rattle.mpy_endings.specs.declared.ending.Ending.{Ending}
 use Rattle.mpy_endings.specs.declared.ending.Ending.TheVariants.{Done, Unaccepted, Unread, Unverified, Unmerged, Unopened, Unfrozen, Unboarded, Different, Stopped, ReadFault, WriteFault, Unwritten, NoMemory, Absent}
-use Rattle.mpy_endings.specs.declared.ending.Stop.TheVariants.{Past, LibraryFault, LibraryUnaccepted, Raised, Memory, Steps}
+use Rattle.mpy_endings.specs.declared.ending.Stop.TheVariants.{Past, LibraryFault, LibraryUnaccepted, Raised, Memory, Steps, Unsaved}
 use Rattle.mpy_endings.specs.Ending.{IsRunStatus, is_folder_fault, is_out_fault, status_of}
 
 pub not_run : (n : ℕ) → (n ≡ 0 → ⊥) → (n ≡ 1 → ⊥) → (n ≡ 5 → ⊥) → (n ≡ 6 → ⊥) → IsRunStatus n → ⊥
@@ -43,6 +43,9 @@ eleven s = not_run 11 (λ e. absurd cc) (λ e. absurd cc) (λ e. absurd cc) (λ 
 twelve : IsRunStatus 12 → ⊥
 twelve s = not_run 12 (λ e. absurd cc) (λ e. absurd cc) (λ e. absurd cc) (λ e. absurd cc) s
 
+thirteen : IsRunStatus 13 → ⊥
+thirteen s = not_run 13 (λ e. absurd cc) (λ e. absurd cc) (λ e. absurd cc) (λ e. absurd cc) s
+
 -- such an ending is that of a run which was made
 pub run_ended : (ending : Ending) → IsRunStatus (status_of ending)
     → (ending ≡ Done) ⊎ (ending ≡ Stopped Raised) ⊎ (ending ≡ Stopped Memory) ⊎ ((count : ℕ) × (ending ≡ Stopped (Steps count)))
@@ -68,6 +71,7 @@ run_ended (Stopped (LibraryUnaccepted source)) s = absurd (three s)
 run_ended (Stopped Raised) s = inr (inl refl)
 run_ended (Stopped Memory) s = inr (inr (inl refl))
 run_ended (Stopped (Steps count)) s = inr (inr (inr (count, refl)))
+run_ended (Stopped Unsaved) s = absurd (thirteen s)
 run_ended ReadFault s = absurd (seven s)
 run_ended WriteFault s = absurd (not_eight s)
 run_ended Unwritten s = absurd (not_eight s)
@@ -109,6 +113,7 @@ quiet_folder (Stopped (LibraryUnaccepted source)) a b = refl
 quiet_folder (Stopped Raised) a b = refl
 quiet_folder (Stopped Memory) a b = refl
 quiet_folder (Stopped (Steps count)) a b = refl
+quiet_folder (Stopped Unsaved) a b = refl
 quiet_folder ReadFault a b = absurd (a refl)
 quiet_folder WriteFault a b = refl
 quiet_folder Unwritten a b = absurd (b refl)

@@ -5,7 +5,7 @@ use Rattle.mpy_io.specs.Ports.{PortView}
 use Rattle.mpy_endings.specs.image_runs.declared.fault.MainFault.TheVariants as mains
 use Rattle.mpy_endings.specs.declared.ending.Ending.{Ending}
 use Rattle.mpy_endings.specs.declared.ending.Ending.TheVariants.{Done, Unaccepted, Unread, Unverified, Unmerged, Unopened, Unfrozen, Unboarded, Different, Stopped, ReadFault, WriteFault, Unwritten, NoMemory, Absent}
-use Rattle.mpy_endings.specs.declared.ending.Stop.TheVariants.{Past, LibraryFault, LibraryUnaccepted, Raised, Memory, Steps}
+use Rattle.mpy_endings.specs.declared.ending.Stop.TheVariants.{Past, LibraryFault, LibraryUnaccepted, Raised, Memory, Steps, Unsaved}
 use Rattle.mpy_endings.specs.Ending.{status_of, IsRunStatus}
 use Rattle.board_command.specs.command_files.Outside.{Outside}
 use Rattle.stress_command.specs.run_commands.Ready.{GoLibrary}
@@ -46,6 +46,7 @@ unloaded_not (Stopped (LibraryUnaccepted source)) u h = not_running 3 (λ e. abs
 unloaded_not (Stopped Raised) u h = absurd u
 unloaded_not (Stopped Memory) u h = absurd u
 unloaded_not (Stopped (Steps count)) u h = absurd u
+unloaded_not (Stopped Unsaved) u h = absurd u
 unloaded_not ReadFault u h = not_running 7 (λ e. absurd cc) (λ e. absurd cc) (λ e. absurd cc) (λ e. absurd cc) (λ e. absurd cc) h
 unloaded_not WriteFault u h = absurd u
 unloaded_not Unwritten u h = absurd u
