@@ -220,11 +220,11 @@ module _ (law : MeantLaw) (Comes : Libraries) (program : Program) (room : Room) 
     meant_to (Unaccepted fault) is says h = meant_by (Unaccepted fault) is says h.0
     meant_to (Unread fault) is says h = meant_by (Unread fault) is says h.0
     meant_to (Unverified fault) is says h = meant_by (Unverified fault) is says h.0
-    meant_to (Unmerged fault) is says h = absurd h
+    meant_to (Unmerged fault) is says h = absurd h.0
     meant_to (Unopened fault) is says h = meant_by (Unopened fault) is says h.0
-    meant_to (Unfrozen fault) is says h = absurd h
-    meant_to (Unboarded fault) is says h = absurd h
-    meant_to (Different difference) is says h = absurd h
+    meant_to (Unfrozen fault) is says h = absurd h.0
+    meant_to (Unboarded fault) is says h = absurd h.0
+    meant_to (Different difference) is says h = absurd h.0
     meant_to ReadFault is says h = meant_by ReadFault is says h.0
     meant_to WriteFault is says h = meant_by WriteFault is says h.0
     meant_to Unwritten is says h = ran ends.Limit (unwritten is) (suspended h)

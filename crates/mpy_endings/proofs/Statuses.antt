@@ -88,6 +88,43 @@ none_run P done raised memory steps ending h s = elim (run_ended ending s) [
   | inr (inr (inr e)) ↦ steps e.0 (subst P e.1 h)
 ]
 
+pub two_unsaved : 2 ≡ 13 → ⊥
+two_unsaved s = absurd cc
+
+-- such an ending is that of a run whose state has no snapshot
+pub unsaved_ended : (ending : Ending) → status_of ending ≡ 13 → ending ≡ Stopped Unsaved
+unsaved_ended Done s = absurd cc
+unsaved_ended (Unaccepted fault) s = absurd cc
+unsaved_ended (Unread fault) s = absurd cc
+unsaved_ended (Unverified fault) s = absurd cc
+unsaved_ended (Unmerged fault) s = absurd cc
+unsaved_ended (Unopened (mains.Image fault)) s = absurd cc
+unsaved_ended (Unopened (mains.NoMain name)) s = absurd cc
+unsaved_ended (Unfrozen (frozen.Sources (sources.Manifest fault))) s = absurd cc
+unsaved_ended (Unfrozen (frozen.Sources (sources.Absent name))) s = absurd cc
+unsaved_ended (Unfrozen (frozen.Sources (sources.Unaccepted name fault))) s = absurd cc
+unsaved_ended (Unfrozen (frozen.Sources (sources.Unread name))) s = absurd cc
+unsaved_ended (Unfrozen (frozen.Image fault)) s = absurd cc
+unsaved_ended (Unboarded (boards.Plan fault)) s = absurd cc
+unsaved_ended (Unboarded (boards.NoModule name)) s = absurd cc
+unsaved_ended (Unboarded (boards.Unwritten task)) s = absurd cc
+unsaved_ended (Different difference) s = absurd cc
+unsaved_ended (Stopped (Past limit)) s = absurd cc
+unsaved_ended (Stopped (LibraryFault path)) s = absurd cc
+unsaved_ended (Stopped (LibraryUnaccepted source)) s = absurd cc
+unsaved_ended (Stopped Raised) s = absurd cc
+unsaved_ended (Stopped Memory) s = absurd cc
+unsaved_ended (Stopped (Steps count)) s = absurd cc
+unsaved_ended (Stopped Unsaved) s = refl
+unsaved_ended ReadFault s = absurd cc
+unsaved_ended WriteFault s = absurd cc
+unsaved_ended Unwritten s = absurd cc
+unsaved_ended NoMemory s = absurd cc
+unsaved_ended Absent s = absurd cc
+
+pub none_unsaved : (P : Ending → Type 0) → (P (Stopped Unsaved) → ⊥) → (ending : Ending) → P ending → status_of ending ≡ 13 → ⊥
+none_unsaved P unsaved ending h s = unsaved (subst P (unsaved_ended ending s) h)
+
 -- counts of faults
 -- ================
 

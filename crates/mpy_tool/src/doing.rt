@@ -199,6 +199,7 @@ pub(crate) fn do_order<F: Folder, S: Sink, P: Port, E: Sink>(
         Finishes order call (library_below below) order.command }
     ensures ports { outside.new.ports ≡ outside.old.ports }
     ensures flushed { IsRunStatus result → S.held outside.new.out ≡ [] }
+    ensures handed_on { result ≡ 13 → S.held outside.new.out ≡ [] }
     ensures files { ChangesBy (texts words.now) order.save order.command (F.files outside.old.folder) (F.files outside.new.folder) }
 {
     let ended = done(

@@ -7,6 +7,8 @@ ghost use Rattle.meant_commands.specs.library_files.Ends.{HoldsModules};
 ghost use Rattle.image_open.specs.image_grammar.Base.{IsOpened};
 ghost use Rattle.mpy_endings.specs.image_runs.Main.{IsMainAt};
 ghost use Rattle.mpy_words.specs.Words.{first_name, saved_name};
+ghost use Rattle.mpy_endings.specs.declared.ending.Ending.TheVariants.{Stopped};
+ghost use Rattle.mpy_endings.specs.declared.ending.Stop.TheVariants.{Unsaved};
 ghost use Rattle.mpy_endings.specs.Ending.{IsRunStatus, is_folder_fault, is_out_fault, is_said, status_of};
 ghost use Rattle.mpy_endings.specs.Line.{Says};
 ghost use Rattle.stress_command.specs.run_commands.library_runs.Runs.{sight};
@@ -128,6 +130,7 @@ fn run_to<F: Folder, S: Sink, P: Port, E: Sink>(
         × Says (E.told outside.old.say) (E.told outside.new.say) (E.count outside.old.say) (E.count outside.new.say) said }
     ensures place { result.place ≡ place_to save result.ending }
     ensures flushed { IsRunStatus (status_of result.ending) → S.held outside.new.out ≡ [] }
+    ensures handed_on { result.ending ≡ Stopped Unsaved → S.held outside.new.out ≡ [] }
     ensures silent { is_said result.ending ≡ false → outside.new.say ≡ outside.old.say }
     ensures unwritten { Counts (F.count outside.old.folder) (F.count outside.new.folder) (is_unwritten result.ending) }
     ensures folder { (failed_in loaded || is_unwritten result.ending) ≡ is_folder_fault result.ending }
@@ -182,6 +185,7 @@ pub(crate) fn run_order<F: Folder, S: Sink, P: Port, E: Sink>(
     ensures ended { let call = call_of F.Folder S.Sink P.Port E.Sink words.now outside.old outside.new result in
         RunsOrSaves order call (library_below below) order.command }
     ensures flushed { IsRunStatus result → S.held outside.new.out ≡ [] }
+    ensures handed_on { result ≡ 13 → S.held outside.new.out ≡ [] }
     ensures files { ChangesBy (texts words.now) order.save order.command (F.files outside.old.folder) (F.files outside.new.folder) }
 {
     let save = save_place(order);

@@ -93,6 +93,7 @@ fn make<F: Folder, S: Sink, P: Port, E: Sink>(
     ensures ended { let call = call_of F.Folder S.Sink P.Port E.Sink [] outside.old outside.new result in
         ShowsPorts call (EndsStress order.seed order.count (room_of order) order.steps) }
     ensures flushed { IsRunStatus result → S.held outside.new.out ≡ [] }
+    ensures handed_on { result ≡ 13 → S.held outside.new.out ≡ [] }
     ensures files { F.files outside.new.folder ≡ F.files outside.old.folder }
 {
     release(below);
@@ -127,6 +128,7 @@ fn act<F: Folder, S: Sink, P: Port, E: Sink>(
         ActsBy order call (library_below below) order.command }
     ensures ports { calls_ports order.command ≡ false → outside.new.ports ≡ outside.old.ports }
     ensures flushed { IsRunStatus result → S.held outside.new.out ≡ [] }
+    ensures handed_on { result ≡ 13 → S.held outside.new.out ≡ [] }
     ensures files { ChangesBy (texts words.now) order.save order.command (F.files outside.old.folder) (F.files outside.new.folder) }
 {
     if runs(order.command) {
@@ -160,6 +162,7 @@ fn obey<F: Folder, S: Sink, P: Port, E: Sink>(
         ObeysBy order call order.command }
     ensures ports { calls_ports order.command ≡ false → outside.new.ports ≡ outside.old.ports }
     ensures flushed { IsRunStatus result → S.held outside.new.out ≡ [] }
+    ensures handed_on { result ≡ 13 → S.held outside.new.out ≡ [] }
     ensures files { ChangesBy (texts words.now) order.save order.command (F.files outside.old.folder) (F.files outside.new.folder) }
 {
     let Some(at) = base_place(order) else {
@@ -264,8 +267,9 @@ pub fn mpy<F: Folder, S: Sink, P: Port, E: Sink>(
     ensures counts { let call = call_of F.Folder S.Sink P.Port E.Sink words.now outside.old outside.new result in
         LeavesCounts call }
 
-    // With status 0, and with 1, 5 and 6 of a run, nothing of what is printed is held back.
+    // With status 0, and with 1, 5, 6 and 13 of a run, nothing of what is printed is held back.
     ensures flushed { IsRunStatus result → S.held outside.new.out ≡ [] }
+    ensures handed_on { result ≡ 13 → S.held outside.new.out ≡ [] }
 
     // No command but cross, merge, freeze, migrate, board and a run that saves its state changes a file, and these none but FILE, OUT,
     // SNAP and the files of the tasks.

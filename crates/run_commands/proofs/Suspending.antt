@@ -22,22 +22,22 @@ use Rattle.command_files.specs.Outside.{Outside}
 use Rattle.command_files.proofs.Others.{became_only, front_only, same_only}
 use Rattle.run_commands.specs.declared.ready.Ready.{Ready}
 use Rattle.run_commands.specs.Run.{IsUnloaded, Runs, ending_of, sight_in}
-use Rattle.run_commands.specs.Save.{EndsRunTo, HasNone, IsSaved, RunsSaving, RunsTo, SavesState, Suspends, is_unwritten}
+use Rattle.run_commands.specs.Save.{EndsRunTo, HasNone, IsSaved, RunsSaving, RunsTo, Saved, SavedFront, SavesState, Suspends, is_unwritten}
 use Rattle.run_commands.proofs.Running.{not_loaded, ran_library, runs_known, said_all, unsaid}
 
 -- what became of the state
 -- ========================
 
 module _ (shelf : Shelf) (vm : Vm) (steps : ℕ) (snap : List ℕ) (old new : Option FileOf) (bytes given : List ℕ) (same : given ≡ bytes) (is : IsSaved bytes shelf vm) where
-  pub written : Becomes old new snap given → SavesState shelf vm steps snap old new (Stopped (Steps steps))
-  written h = (bytes, is, subst (Becomes old new snap) same h, refl)
+  pub written : Becomes old new snap given → SavesState snap old new shelf vm steps (Stopped (Steps steps))
+  written h = ((bytes, is, subst (Becomes old new snap) same h), refl)
 
-  pub cut : BecomesFront old new snap given → SavesState shelf vm steps snap old new Unwritten
+  pub cut : BecomesFront old new snap given → SavesState snap old new shelf vm steps Unwritten
   cut h = (bytes, is, subst (BecomesFront old new snap) same h)
 
 module _ (shelf : Shelf) (vm : Vm) (steps : ℕ) (snap : List ℕ) (old new : Option FileOf) where
   abbrev Saves : Ending → Type 0
-  Saves ending = SavesState shelf vm steps snap old new ending
+  Saves ending = SavesState snap old new shelf vm steps ending
 
   -- the count of the output's faults stays, nothing is said of it in the run, and only a file that isn't written is a fault of the folder
   pub saved_quiet : (ending : Ending) → Saves ending → is_out_fault ending ≡ false
@@ -126,7 +126,7 @@ module _ (Comes : Result Ready Ending → Type 0) (room : Room) (steps : ℕ) (o
       suspends Saves h = record { ready = ready; comes = comes; runs = runs; vm = vm; stands = stands; saves = h }
 
       -- it took all its steps, and its state was saved or not
-      pub was_saved : (ending : Ending) → SavesState ready.library vm steps snap files_old files_new ending → Went ending
+      pub was_saved : (ending : Ending) → SavesState snap files_old files_new ready.library vm steps ending → Went ending
       was_saved Done h = absurd h
       was_saved (Unaccepted fault) h = absurd h
       was_saved (Unread fault) h = absurd h
@@ -141,12 +141,11 @@ module _ (Comes : Result Ready Ending → Type 0) (room : Room) (steps : ℕ) (o
       was_saved (Stopped (LibraryUnaccepted source)) h = absurd h
       was_saved (Stopped Raised) h = absurd h
       was_saved (Stopped Memory) h = absurd h
-      was_saved (Stopped (Steps count)) h =
-          (suspends (λ shelf v. (bytes : List ℕ) × IsSaved bytes shelf v × Becomes files_old files_new snap bytes) (h.0, h.1, h.2), h.3)
+      was_saved (Stopped (Steps count)) h = (suspends (Saved snap files_old files_new) h.0, h.1)
       was_saved (Stopped Unsaved) h = (suspends HasNone h.0, h.1)
       was_saved ReadFault h = absurd h
       was_saved WriteFault h = absurd h
-      was_saved Unwritten h = suspends (λ shelf v. (bytes : List ℕ) × IsSaved bytes shelf v × BecomesFront files_old files_new snap bytes) h
+      was_saved Unwritten h = suspends (SavedFront snap files_old files_new) h
       was_saved NoMemory h = (inr (suspends (λ shelf v. Unit {0}) tt), h)
       was_saved Absent h = absurd h
 
@@ -158,6 +157,14 @@ not_unwritten ends.Memory steps = refl
 not_unwritten ends.Limit steps = refl
 not_unwritten ends.WriteFault steps = refl
 not_unwritten ends.NoMemory steps = refl
+
+pub not_unsaved : (end : RunEnd) (steps : ℕ) (ending : Ending) → ending ≡ ending_of end steps → ending ≡ Stopped Unsaved → ⊥
+not_unsaved ends.Ended steps ending is e = absurd cc
+not_unsaved ends.Raised steps ending is e = absurd cc
+not_unsaved ends.Memory steps ending is e = absurd cc
+not_unsaved ends.Limit steps ending is e = absurd cc
+not_unsaved ends.WriteFault steps ending is e = absurd cc
+not_unsaved ends.NoMemory steps ending is e = absurd cc
 
 pub unloaded_unwritten : (ending : Ending) → IsUnloaded ending → is_unwritten ending ≡ false
 unloaded_unwritten Done h = refl
@@ -186,11 +193,11 @@ module _ (room : Room) (steps : ℕ) (old new : Sight) (said snap : List ℕ) (f
   unsaid_to Comes (Unaccepted fault) r e = unsaid Comes room steps old new said (Unaccepted fault) r.0 e
   unsaid_to Comes (Unread fault) r e = unsaid Comes room steps old new said (Unread fault) r.0 e
   unsaid_to Comes (Unverified fault) r e = unsaid Comes room steps old new said (Unverified fault) r.0 e
-  unsaid_to Comes (Unmerged fault) r e = absurd r
+  unsaid_to Comes (Unmerged fault) r e = absurd r.0
   unsaid_to Comes (Unopened fault) r e = unsaid Comes room steps old new said (Unopened fault) r.0 e
-  unsaid_to Comes (Unfrozen fault) r e = absurd r
-  unsaid_to Comes (Unboarded fault) r e = absurd r
-  unsaid_to Comes (Different difference) r e = absurd r
+  unsaid_to Comes (Unfrozen fault) r e = absurd r.0
+  unsaid_to Comes (Unboarded fault) r e = absurd r.0
+  unsaid_to Comes (Different difference) r e = absurd r.0
   unsaid_to Comes (Stopped (Past limit)) r e = unsaid Comes room steps old new said (Stopped (Past limit)) r.0 e
   unsaid_to Comes (Stopped (LibraryFault path)) r e = unsaid Comes room steps old new said (Stopped (LibraryFault path)) r.0 e
   unsaid_to Comes (Stopped (LibraryUnaccepted source)) r e = unsaid Comes room steps old new said (Stopped (LibraryUnaccepted source)) r.0 e
@@ -217,21 +224,21 @@ module _ (room : Room) (steps : ℕ) (old new : Sight) (said snap : List ℕ) (f
     saving_known (Unaccepted fault) r = (runs_known Comes room steps old new said Known known (Unaccepted fault) r.0, r.1)
     saving_known (Unread fault) r = (runs_known Comes room steps old new said Known known (Unread fault) r.0, r.1)
     saving_known (Unverified fault) r = (runs_known Comes room steps old new said Known known (Unverified fault) r.0, r.1)
-    saving_known (Unmerged fault) r = absurd r
+    saving_known (Unmerged fault) r = absurd r.0
     saving_known (Unopened fault) r = (runs_known Comes room steps old new said Known known (Unopened fault) r.0, r.1)
-    saving_known (Unfrozen fault) r = absurd r
-    saving_known (Unboarded fault) r = absurd r
-    saving_known (Different difference) r = absurd r
+    saving_known (Unfrozen fault) r = absurd r.0
+    saving_known (Unboarded fault) r = absurd r.0
+    saving_known (Different difference) r = absurd r.0
     saving_known (Stopped (Past limit)) r = (runs_known Comes room steps old new said Known known (Stopped (Past limit)) r.0, r.1)
     saving_known (Stopped (LibraryFault path)) r = (runs_known Comes room steps old new said Known known (Stopped (LibraryFault path)) r.0, r.1)
     saving_known (Stopped (LibraryUnaccepted source)) r = (runs_known Comes room steps old new said Known known (Stopped (LibraryUnaccepted source)) r.0, r.1)
     saving_known (Stopped Raised) r = (runs_known Comes room steps old new said Known known (Stopped Raised) r.0, r.1)
     saving_known (Stopped Memory) r = (runs_known Comes room steps old new said Known known (Stopped Memory) r.0, r.1)
-    saving_known (Stopped (Steps count)) r = (suspends_known (λ shelf v. (bytes : List ℕ) × IsSaved bytes shelf v × Becomes files_old files_new snap bytes) r.0, r.1)
+    saving_known (Stopped (Steps count)) r = (suspends_known (Saved snap files_old files_new) r.0, r.1)
     saving_known (Stopped Unsaved) r = (suspends_known HasNone r.0, r.1)
     saving_known ReadFault r = (runs_known Comes room steps old new said Known known ReadFault r.0, r.1)
     saving_known WriteFault r = (runs_known Comes room steps old new said Known known WriteFault r.0, r.1)
-    saving_known Unwritten r = suspends_known (λ shelf v. (bytes : List ℕ) × IsSaved bytes shelf v × BecomesFront files_old files_new snap bytes) r
+    saving_known Unwritten r = suspends_known (SavedFront snap files_old files_new) r
     saving_known NoMemory r = (
       elim r.0 [
         | inl h ↦ inl h
@@ -247,11 +254,11 @@ module _ (room : Room) (steps : ℕ) (old new : Sight) (said snap : List ℕ) (f
   saving_only Comes (Unaccepted fault) r = same_only files_old files_new snap r.1
   saving_only Comes (Unread fault) r = same_only files_old files_new snap r.1
   saving_only Comes (Unverified fault) r = same_only files_old files_new snap r.1
-  saving_only Comes (Unmerged fault) r = absurd r
+  saving_only Comes (Unmerged fault) r = absurd r.0
   saving_only Comes (Unopened fault) r = same_only files_old files_new snap r.1
-  saving_only Comes (Unfrozen fault) r = absurd r
-  saving_only Comes (Unboarded fault) r = absurd r
-  saving_only Comes (Different difference) r = absurd r
+  saving_only Comes (Unfrozen fault) r = absurd r.0
+  saving_only Comes (Unboarded fault) r = absurd r.0
+  saving_only Comes (Different difference) r = absurd r.0
   saving_only Comes (Stopped (Past limit)) r = same_only files_old files_new snap r.1
   saving_only Comes (Stopped (LibraryFault path)) r = same_only files_old files_new snap r.1
   saving_only Comes (Stopped (LibraryUnaccepted source)) r = same_only files_old files_new snap r.1

@@ -34,13 +34,22 @@ pub record IsSaved (bytes : List ℕ) (shelf : Shelf) (vm : Vm) : Type 0 where
 abbrev pub HasNone : Shelf → Vm → Type 0
 HasNone shelf vm = IsTooBig shelf vm.arena vm.modules vm.frames.calls vm.paid
 
--- what became of the snapshot of a machine's state that took these steps: the file of this name, or why no file changed
-abbrev pub SavesState : Shelf → Vm → (steps : ℕ) → (snap : List ℕ) → (old new : Option FileOf) → Ending → Type 0
-SavesState shelf vm steps snap old new (Stopped (Steps count)) = (bytes : List ℕ) × IsSaved bytes shelf vm × Becomes old new snap bytes × (count ≡ steps)
-SavesState shelf vm steps snap old new (Stopped Unsaved) = HasNone shelf vm × (new ≡ old)
-SavesState shelf vm steps snap old new Unwritten = (bytes : List ℕ) × IsSaved bytes shelf vm × BecomesFront old new snap bytes
-SavesState shelf vm steps snap old new NoMemory = new ≡ old
-SavesState shelf vm steps snap old new _ = ⊥
+module _ (snap : List ℕ) (files_old files_new : Option FileOf) where
+  -- the file of this name has the snapshot of a machine's state, and no other changed
+  abbrev pub Saved : Shelf → Vm → Type 0
+  Saved shelf vm = (bytes : List ℕ) × IsSaved bytes shelf vm × Becomes files_old files_new snap bytes
+
+  -- it has a front of that, or no file changed
+  abbrev pub SavedFront : Shelf → Vm → Type 0
+  SavedFront shelf vm = (bytes : List ℕ) × IsSaved bytes shelf vm × BecomesFront files_old files_new snap bytes
+
+  -- what became of the snapshot of a machine's state that took these steps
+  abbrev pub SavesState : Shelf → Vm → (steps : ℕ) → Ending → Type 0
+  SavesState shelf vm steps (Stopped (Steps count)) = Saved shelf vm × (count ≡ steps)
+  SavesState shelf vm steps (Stopped Unsaved) = HasNone shelf vm × (files_new ≡ files_old)
+  SavesState shelf vm steps Unwritten = SavedFront shelf vm
+  SavesState shelf vm steps NoMemory = files_new ≡ files_old
+  SavesState shelf vm steps _ = ⊥
 
 -- where the relation tells what loading the library comes to
 module _ (Comes : Result Ready Ending → Type 0) (room : Room) (steps : ℕ) (old new : Sight) (said : List ℕ) where
@@ -54,34 +63,14 @@ module _ (Comes : Result Ready Ending → Type 0) (room : Room) (steps : ℕ) (o
     pub stands : StandsAt ready.library ready.main room steps old new vm
     pub saves : Saves ready.library vm
 
-  module _ (snap : List ℕ) (files_old files_new : Option FileOf) where
-    -- the run ended so, or wasn't begun, and no file changed
-    abbrev pub RunsToEnd : Ending → Type 0
-    RunsToEnd ending = Runs Comes room steps old new said ending × (files_new ≡ files_old)
-
-    -- How the run ended, and what the file of this name became: the state's snapshot where the run took all its steps.
-    abbrev pub RunsSaving : Ending → Type 0
-    RunsSaving Done = RunsToEnd Done
-    RunsSaving (Unaccepted fault) = RunsToEnd (Unaccepted fault)
-    RunsSaving (Unread fault) = RunsToEnd (Unread fault)
-    RunsSaving (Unverified fault) = RunsToEnd (Unverified fault)
-    RunsSaving (Unmerged fault) = ⊥
-    RunsSaving (Unopened fault) = RunsToEnd (Unopened fault)
-    RunsSaving (Unfrozen fault) = ⊥
-    RunsSaving (Unboarded fault) = ⊥
-    RunsSaving (Different difference) = ⊥
-    RunsSaving (Stopped (Past limit)) = RunsToEnd (Stopped (Past limit))
-    RunsSaving (Stopped (LibraryFault path)) = RunsToEnd (Stopped (LibraryFault path))
-    RunsSaving (Stopped (LibraryUnaccepted source)) = RunsToEnd (Stopped (LibraryUnaccepted source))
-    RunsSaving (Stopped Raised) = RunsToEnd (Stopped Raised)
-    RunsSaving (Stopped Memory) = RunsToEnd (Stopped Memory)
-    RunsSaving (Stopped (Steps count)) = Suspends (λ shelf vm. (bytes : List ℕ) × IsSaved bytes shelf vm × Becomes files_old files_new snap bytes) × (count ≡ steps)
-    RunsSaving (Stopped Unsaved) = Suspends HasNone × (files_new ≡ files_old)
-    RunsSaving ReadFault = RunsToEnd ReadFault
-    RunsSaving WriteFault = RunsToEnd WriteFault
-    RunsSaving Unwritten = Suspends (λ shelf vm. (bytes : List ℕ) × IsSaved bytes shelf vm × BecomesFront files_old files_new snap bytes)
-    RunsSaving NoMemory = (Untouched old new said ⊎ Suspends (λ shelf vm. Unit {0})) × (files_new ≡ files_old)
-    RunsSaving Absent = RunsToEnd Absent
+  -- How a run ended whose state is saved to the file of this name where it takes all its steps, and what the files became. Where it ends
+  -- otherwise, no file changes.
+  abbrev pub RunsSaving : (snap : List ℕ) → (files_old files_new : Option FileOf) → Ending → Type 0
+  RunsSaving snap files_old files_new (Stopped (Steps count)) = Suspends (Saved snap files_old files_new) × (count ≡ steps)
+  RunsSaving snap files_old files_new (Stopped Unsaved) = Suspends HasNone × (files_new ≡ files_old)
+  RunsSaving snap files_old files_new Unwritten = Suspends (SavedFront snap files_old files_new)
+  RunsSaving snap files_old files_new NoMemory = (Untouched old new said ⊎ Suspends (λ shelf vm. Unit {0})) × (files_new ≡ files_old)
+  RunsSaving snap files_old files_new ending = Runs Comes room steps old new said ending × (files_new ≡ files_old)
 
 -- how a run ended, whose state is saved to a file, if one is named, and what the folder's files became
 abbrev pub RunsTo : (snap : Option (List ℕ)) → (Comes : Result Ready Ending → Type 0) → Room → (steps : ℕ) → (old new : Sight) → (said : List ℕ) → (files_old files_new : Option FileOf) → Ending → Type 0

@@ -4,6 +4,8 @@ ghost use Rattle.std.specs.Prelude.{◌≡◌, ◌||◌, [], false, List, ℕ, I
 ghost use Rattle.mpy_io.specs.Count.{Counts};
 ghost use Rattle.bc_library.specs.mpy_tree.Raw.{Module};
 ghost use Rattle.command_files.specs.image_runs.Main.{IsMainAt};
+ghost use Rattle.command_files.specs.mpy_endings.declared.ending.Ending.TheVariants.{Stopped};
+ghost use Rattle.command_files.specs.mpy_endings.declared.ending.Stop.TheVariants.{Unsaved};
 ghost use Rattle.command_files.specs.mpy_endings.Ending.{IsRunStatus, is_out_fault, is_folder_fault, is_said, status_of};
 ghost use Rattle.command_files.specs.mpy_endings.Line.{Says};
 ghost use Rattle.command_files.specs.Opened.{failed_in};
@@ -32,7 +34,7 @@ fn save_state<F: Folder>(
     snap: &str,
     folder: &mut F,
 ) -> Ending
-    ensures saves { SavesState library.now vm.now steps snap.now (F.files folder.old) (F.files folder.new) result }
+    ensures saves { SavesState snap.now (F.files folder.old) (F.files folder.new) library.now vm.now steps result }
     ensures unwritten { Counts (F.count folder.old) (F.count folder.new) (is_unwritten result) }
 {
     match save(alloc, library, &vm.arena, &vm.modules, &vm.frames, vm.paid) {
@@ -65,6 +67,7 @@ pub fn run_saving<F: Folder, S: Sink, P: Port, E: Sink>(
         × RunsSaving (λ ready. ready ≡ loaded) room steps (sight S.told P.seen out.old ports.old) (sight S.told P.seen out.new ports.new) said snap.now (F.files folder.old) (F.files folder.new) result
         × Says (E.told say.old) (E.told say.new) (E.count say.old) (E.count say.new) said }
     ensures flushed { IsRunStatus (status_of result) → S.held out.new ≡ [] }
+    ensures handed_on { result ≡ Stopped Unsaved → S.held out.new ≡ [] }
     ensures silent { is_said result ≡ false → say.new ≡ say.old }
     ensures unwritten { Counts (F.count folder.old) (F.count folder.new) (is_unwritten result) }
     ensures folder { (failed_in loaded || is_unwritten result) ≡ is_folder_fault result }

@@ -5,6 +5,7 @@ use Rattle.mpy_io.specs.Files.{FileOf}
 use Rattle.mpy_words.specs.Words.{first_name, saved_name}
 use Rattle.mpy_endings.specs.Ending.{IsRunStatus}
 use Rattle.mpy_endings.specs.declared.ending.Ending.{Ending}
+use Rattle.mpy_endings.proofs.Statuses.{unsaved_ended}
 use Rattle.board_command.specs.command_files.Opened.{failed_in}
 use Rattle.stress_command.specs.run_commands.declared.ready.Ready.{Ready}
 use Rattle.stress_command.specs.run_commands.Run.{room_of, sight_in}
@@ -45,6 +46,9 @@ returns-clause-ended g c =
 
 pub returns-clause-flushed : goal.returns-clause-flushed
 returns-clause-flushed g c = λ s. c.run_to-ended.ensures.flushed (subst IsRunStatus c.status.ensures s)
+
+pub returns-clause-handed_on : goal.returns-clause-handed_on
+returns-clause-handed_on g c = λ s. c.run_to-ended.ensures.handed_on (unsaved_ended c.run_to-ended.result.ending (sym c.status.ensures ∙ s))
 
 pub returns-clause-files : goal.returns-clause-files
 returns-clause-files g c =

@@ -6,7 +6,7 @@ use Rattle.board_command.specs.command_files.Opened.{failed_in}
 use Rattle.mpy_endings.specs.declared.ending.Ending.{Ending}
 use Rattle.stress_command.specs.run_commands.declared.ready.Ready.{Ready}
 use Rattle.stress_command.specs.run_commands.library_runs.Runs.{sight}
-use Rattle.stress_command.specs.run_commands.Run.{room_of}
+use Rattle.stress_command.specs.run_commands.Run.{Runs, room_of}
 use Rattle.stress_command.specs.run_commands.Save.{RunsTo, is_unwritten}
 use Rattle.stress_command.proofs.run_commands_lemmas.Suspending.{or_false, runs_written}
 use Rattle.mpy_tool.proofs.running.run_to.Goals as goal
@@ -29,6 +29,12 @@ returns-in-None-clause-went g c =
     (sight g.S.Sink.told g.P.Port.seen c.args.outside.now.out c.args.outside.now.ports) (sight g.S.Sink.told g.P.Port.seen c.run_loaded.new.out c.run_loaded.new.ports)
     went.0 files files c.run_loaded.result in
     (went.0, subst Went (ap (saved_name words) (sym c.in-None.is)) (went.1, refl), went.2)
+
+pub returns-in-None-clause-handed_on : goal.returns-in-None-clause-handed_on
+returns-in-None-clause-handed_on g c = λ s.
+    let went = c.run_loaded.ensures.went in
+    absurd (subst (Runs (λ (r : Result Ready Ending). r ≡ c.args.loaded) (room_of c.args.order) c.args.order.steps
+    (sight g.S.Sink.told g.P.Port.seen c.args.outside.now.out c.args.outside.now.ports) (sight g.S.Sink.told g.P.Port.seen c.run_loaded.new.out c.run_loaded.new.ports) went.0) s went.1)
 
 pub returns-in-None-clause-unwritten : goal.returns-in-None-clause-unwritten
 returns-in-None-clause-unwritten g c =

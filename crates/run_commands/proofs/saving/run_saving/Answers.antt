@@ -15,7 +15,7 @@ use Rattle.run_commands.specs.declared.ready.Ready.{Ready}
 use Rattle.run_commands.specs.Run.{IsUnloaded}
 use Rattle.run_commands.specs.Save.{RunsSaving}
 use Rattle.run_commands.proofs.Running.{same_sight, says_nothing}
-use Rattle.run_commands.proofs.Suspending.{ended_so, not_begun, saved_quiet, was_saved}
+use Rattle.run_commands.proofs.Suspending.{ended_so, not_begun, not_unsaved, saved_quiet, was_saved}
 use Rattle.run_commands.proofs.saving.run_saving.Goals as goal
 
 pub run_for-end-requires-clause-runnable : goal.run_for-end-requires-clause-runnable
@@ -47,6 +47,17 @@ returns-in-Some-clause-went g c =
 
 pub returns-in-Some-clause-flushed : goal.returns-in-Some-clause-flushed
 returns-in-Some-clause-flushed g c = λ s.
+    let old = sight g.S.Sink.told g.P.Port.seen c.args.out.now c.args.ports.now in
+    let new = sight g.S.Sink.told g.P.Port.seen c.run_for-end.new.out c.run_for-end.new.ports in
+    let end = c.run_for-end.result.0 in
+    let ready = c.in-Ok.ready in
+    let first = subst (λ (r : Result Ready Ending). IfOk r (λ ready. (m : Module) × IsMainAt ready.main ready.place m ready.library)) c.in-Ok.is c.requires.there in
+    let named : Named = record { name = ready.main; held = first.0 } in
+    let left = subst (λ (o : Option Vm). MatchOption o (end ≢ ends.Limit) (λ vm. (end ≡ ends.Limit) × StandsAt ready.library ready.main c.args.room c.args.steps old new vm)) c.in-Some.is (c.run_for-end.ensures.leaves named first.1) in
+    c.run_for-end.ensures.flushed (subst IsOver (sym left.0) tt)
+
+pub returns-in-Some-clause-handed_on : goal.returns-in-Some-clause-handed_on
+returns-in-Some-clause-handed_on g c = λ s.
     let old = sight g.S.Sink.told g.P.Port.seen c.args.out.now c.args.ports.now in
     let new = sight g.S.Sink.told g.P.Port.seen c.run_for-end.new.out c.run_for-end.new.ports in
     let end = c.run_for-end.result.0 in
@@ -99,8 +110,14 @@ returns-in-Ok-clause-went g c =
     let went = ended_so Comes c.args.room c.args.steps old new ran.0 c.args.snap.now files files ready (sym c.in-Ok.is) end other none ran.1 refl in
     (ran.0, subst (λ (x : Ending). RunsSaving Comes c.args.room c.args.steps old new ran.0 c.args.snap.now files files x) (sym c.ending_of.ensures) went, ran.2)
 
+pub returns-in-Ok-clause-handed_on : goal.returns-in-Ok-clause-handed_on
+returns-in-Ok-clause-handed_on g c = λ s. absurd (not_unsaved c.run_for-end.result.0 c.args.steps c.ending_of.result c.ending_of.ensures s)
+
 -- it wasn't begun
 -- ===============
+
+pub returns-in-Err-clause-handed_on : goal.returns-in-Err-clause-handed_on
+returns-in-Err-clause-handed_on g c = λ s. absurd (subst IsUnloaded s (subst (λ (r : Result Ready Ending). IfErr r IsUnloaded) c.in-Err.is c.requires.unloaded))
 
 pub returns-clause-went : goal.returns-clause-went
 returns-clause-went g c =
