@@ -238,7 +238,8 @@ run_means law Comes room steps name old new ports_old ports_new status ended pro
 
 pub run_to_means : MeantLaw → (snap : Option (List ℕ)) (Comes : Libraries) (room : Room) (steps : ℕ) (name : List ℕ) (old new : Outside) (ports_old ports_new : List PortView) (status : ℕ)
     → EndsRunTo snap Comes room steps name old new ports_old ports_new status → RunMeans Comes room steps name old new ports_old ports_new status
-run_to_means law None Comes room steps name old new ports_old ports_new status ended = run_means law Comes room steps name old new ports_old ports_new status ended
+run_to_means law None Comes room steps name old new ports_old ports_new status ended program holds ports printed ports_told accounted out_told =
+    run_means law Comes room steps name old new ports_old ports_new status ended program holds ports printed ports_told accounted out_told
 run_to_means law (Some snap) Comes room steps name old new ports_old ports_new status ended program holds ports printed ports_told accounted out_told =
     meant_to law Comes program room steps name old new ports_old ports_new ports printed holds ports_told accounted out_told status ended.said snap ended.ending ended.status_is ended.says ended.went
 

@@ -88,8 +88,8 @@ none_run P done raised memory steps ending h s = elim (run_ended ending s) [
   | inr (inr (inr e)) ↦ steps e.0 (subst P e.1 h)
 ]
 
-pub two_unsaved : 2 ≡ 13 → ⊥
-two_unsaved s = absurd cc
+pub two_unsaved : (status : ℕ) → status ≡ 2 → status ≡ 13 → ⊥
+two_unsaved status e s = absurd cc
 
 -- such an ending is that of a run whose state has no snapshot
 pub unsaved_ended : (ending : Ending) → status_of ending ≡ 13 → ending ≡ Stopped Unsaved

@@ -79,7 +79,7 @@ pub returns-in-Err-clause-flushed : goal.returns-in-Err-clause-flushed
 returns-in-Err-clause-flushed g c = λ s. absurd (not_two s)
 
 pub returns-in-Err-clause-handed_on : goal.returns-in-Err-clause-handed_on
-returns-in-Err-clause-handed_on g c = λ s. absurd (two_unsaved s)
+returns-in-Err-clause-handed_on g c = λ s. absurd (two_unsaved 2 refl s)
 
 pub returns-in-Ok-clause-counts : goal.returns-in-Ok-clause-counts
 returns-in-Ok-clause-counts g c =
