@@ -175,6 +175,7 @@ const STATIC_TEXTS: [&[u8]; 165] = [
 ];
 
 /// By how much the slots of texts of one kind are moved, so that no two of the texts have one slot.
+/// `bin/static-slots` finds these and the places from the texts.
 static SHIFTS: [u8; 32] = [
     4, 14, 7, 0, 8, 9, 78, 3, 0, 11, 13, 52, 18, 16, 6, 0, 7, 1, 0, 26, 0, 3, 40, 3, 4, 21, 3, 1,
     5, 10, 2, 19,
