@@ -1,5 +1,5 @@
 -- Instructions that take and give slots, where there are no entries.
-use Rattle.std.proofs.Common.{◌≡◌, ℕ, zero, suc, ◌-◌, ◌<◌, ◌≤◌, Bool, true, false, ◌&&◌, List, [], ◌∷◌, length, map, Option, Some, None, refl, sym, ap, subst, ◌∙◌, arith}
+use Rattle.std.proofs.Common.{◌≡◌, ℕ, suc, ◌-◌, ◌≤◌, true, ◌&&◌, List, [], ◌∷◌, length, map, Some, None, refl, sym, ap, subst, ◌∙◌, arith}
 use Rattle.std.specs.Prelude.{IfSome, nat_le, slice_get}
 use Rattle.std.proofs.lemmas.Bool.{and_from, and_parts, false≢true}
 use Rattle.std.proofs.lemmas.Bool.Decides.{nat_tests}
@@ -7,12 +7,11 @@ use Rattle.bc_flow.specs.bc_shapes.declared.kinds.Kind.{Kind}
 use Rattle.bc_flow.specs.bc_shapes.declared.kinds.Want.{Want}
 use Rattle.bc_flow.specs.bc_shapes.declared.shape.Entry.{Entry}
 use Rattle.bc_flow.specs.bc_shapes.Shape.{At, Under, fits, stands}
-use Rattle.bc_flow.specs.declared.edges.Change.{Change}
 use Rattle.bc_flow.specs.declared.edges.Change.TheVariants.{Keep}
 use Rattle.bc_flow.specs.Action.{Action, Straight}
 use Rattle.bc_flow.specs.Code.{Code}
-use Rattle.bc_flow.specs.Edges.{Next, arrive, asks, base, behind, change, deep, edge_of, falls, finds, is_marked, jump_way, mark, raise_ways, room, slots_of, stays, takes, target}
-use Rattle.bc_certificates.specs.Rows.{Rows, brought, fall, goes_on, row}
+use Rattle.bc_flow.specs.Edges.{Next, asks, base, behind, change, deep, edge_of, falls, finds, is_marked, jump_way, mark, raise_ways, room, slots_of, stays, takes, target}
+use Rattle.bc_certificates.specs.Rows.{Rows, brought, fall, row}
 use Rattle.bc_certificates.specs.Checking.{Falls, Kept, Lead, Stands, fits_entries, is_plain, is_straight, ordered}
 use Rattle.bc_certificates.proofs.Checks.{brings_is, goes_from, lead_none}
 

@@ -93,13 +93,24 @@ fn copy_row(table: &Table, row: &Row, x: &mut Shape) -> Result<(), NoMemory>
     }
 }
 
-/// Does what came lie below the row?
-fn under_row(table: &Table, row: &Row, seen: &mut Seen) -> Result<bool, NoMemory>
+/// Does what came lie below the row, of which a copy is made?
+fn under_copy(table: &Table, row: &Row, seen: &mut Seen) -> Result<bool, NoMemory>
     ensures yes { IfOk result (λ yes. OnTrue yes (Under (at_of seen.old.came) (at_row table.now.bases.items row.now))) }
     ensures came { OnOk result (at_of seen.new.came ≡ at_of seen.old.came) }
 {
     copy_row(table, row, &mut seen.there)?;
     Ok(under(&seen.came, &seen.there))
+}
+
+/// Does what came lie below the row?
+fn under_row(table: &Table, row: &Row, seen: &mut Seen) -> Result<bool, NoMemory>
+    ensures yes { IfOk result (λ yes. OnTrue yes (Under (at_of seen.old.came) (at_row table.now.bases.items row.now))) }
+    ensures came { OnOk result (at_of seen.new.came ≡ at_of seen.old.came) }
+{
+    match base_at(&table.bases, row.base) {
+        None => Ok(under(&seen.came, &row.top)),
+        Some(_) => under_copy(table, row, seen),
+    }
 }
 
 /// Does what arrives along an edge lie below the row, with its entries marked?

@@ -34,7 +34,10 @@ fn slots_from(
     low: usize,
     height: usize,
 ) -> Result<Vec<Kind>, NoMemory> {
-    let mut slots = Vec::with_capacity(alloc, height.saturating_sub(low))?;
+    if height <= low {
+        return Ok(Vec::new(alloc));
+    }
+    let mut slots = Vec::with_capacity(alloc, height - low)?;
     let groups = groups_of(height);
     for i in 0..groups {
         let g = groups - 1 - i;
@@ -311,9 +314,14 @@ fn row_of(alloc: Global, walk: &Walk, b: usize, shared: Shared) -> Result<Option
     let count = count_entries(walk, block.entry).saturating_sub(shared.entries);
     let slots = slots_from(alloc, walk, b, shared.slots, block.height)?;
     let entries = entries_from(alloc, walk, block.position, block.entry, count)?;
+    let base = if saved(shared) == 0 {
+        NONE
+    } else {
+        shared.base
+    };
     Ok(Some(Row {
         top: Shape { slots, entries },
-        base: shared.base,
+        base,
         slots: shared.slots,
         entries: shared.entries,
     }))

@@ -1,9 +1,8 @@
-use Rattle.std.proofs.Common.{◌≡◌, ◌∙◌, sym, subst}
+use Rattle.std.proofs.Common.{◌∙◌, sym, subst}
 use Rattle.std.specs.Prelude.{IfSome}
 use Rattle.std.proofs.lemmas.Bool.{OnTrue_at, OnTrue_from}
 use Rattle.std.proofs.lemmas.Result.{IfOk-weaker}
 use Rattle.bc_flow.specs.bc_shapes.Shape.{Under}
-use Rattle.bc_flow.specs.bc_shapes.Views.{at_of}
 use Rattle.bc_flow.specs.Views.{edge_of_rust}
 use Rattle.bc_certificates.specs.Checking.{Falls, at_row, rows_of}
 use Rattle.bc_certificates.proofs.checking.falls_to.Goals as goal
