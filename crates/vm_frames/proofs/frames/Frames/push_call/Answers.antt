@@ -6,4 +6,4 @@ use Rattle.vm_frames.proofs.frames.Frames.push_call.Goals as goal
 pub returns : goal.returns
 returns c =
     let deep = depth_is c.self.inside c.args.self.now c.self.view_is in
-    begun c.self.inside c.args.self.now c.begin.new.self _ c.self.invariant c.self.view_is (omega (arith, deep, c.self.invariant.all, c.requires.shallow)) (ap (λ (z : Held). z.call) c.begin.ensures)
+    begun c.self.inside c.args.self.now c.begin.new.self c.swap.new.y _ c.self.view_is (omega (arith, deep, c.self.invariant.all, c.requires.shallow)) c.swap.ensures.y_after (ap (λ (z : Held). z.call) c.begin.ensures)
