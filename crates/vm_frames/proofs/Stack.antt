@@ -4,7 +4,7 @@ use Rattle.std.proofs.Math.ListN.{set}
 use Rattle.std.specs.Prelude.{slice_get}
 use Rattle.std.proofs.lemmas.List.{get_or-set_same, get_or-set_other, get_or_default, get_or-reverse, length-reverse}
 use Rattle.std.proofs.lemmas.Option.{slice_get-get_or}
-use Rattle.std.specs.Vec.{with_item}
+use Rattle.arrayvec.specs.ArrayVec.{ArrayVec}
 use Rattle.vm_frames.specs.Calls.{Call, Calls, OfRunning, change_first, on_running}
 use Rattle.vm_frames.specs.Held.{Held, with_call}
 use Rattle.vm_frames.specs.Stacked.{no_call, no_frame, calls_in, calls_of, IsFrames}
@@ -41,21 +41,23 @@ one_more xs d top new h =
     ∙ ap (λ (z : List Call). new.call ∷ z) (below top xs d d top (omega arith))
 
 -- the running frame waits, and another one runs
-pub begun : (f : Inside) (old : Calls) (new waits : Held) (c : Call) → calls_of f ≡ old → f.depth < length f.frames.items → waits ≡ f.top → new.call ≡ c
-    → calls_of (record f { top = new; frames = with_item f.frames f.depth waits; depth = f.depth + 1 }) ≡ record old { calls = c ∷ old.calls }
-begun f old new waits c e h w n =
+pub begun : (f : Inside) (old : Calls) (new waits : Held) (fs : ArrayVec Held) (c : Call) → calls_of f ≡ old → f.depth < length f.frames.items
+    → fs.items ≡ set f.frames.items f.depth waits → waits ≡ f.top → new.call ≡ c
+    → calls_of (record f { top = new; frames = fs; depth = f.depth + 1 }) ≡ record old { calls = c ∷ old.calls }
+begun f old new waits fs c e h stored w n =
     let all : Calls = calls_of f in
     let F : List Call → Calls = λ z. record all { calls = z } in
     let xs = f.frames.items in
     let k : f.depth + 1 ≡ suc f.depth = omega arith in
-    ap F (ap (calls_in new (set xs f.depth waits)) k
-    ∙ (one_more xs f.depth waits new h ∙ (ap (λ (z : Held). new.call ∷ calls_in z xs f.depth) w ∙ ap (λ (z : Call). z ∷ calls_in f.top xs f.depth) n)))
+    ap F (ap (calls_in new fs.items) k ∙ (ap (λ (zs : List Held). calls_in new zs (suc f.depth)) stored
+    ∙ (one_more xs f.depth waits new h ∙ (ap (λ (z : Held). new.call ∷ calls_in z xs f.depth) w ∙ ap (λ (z : Call). z ∷ calls_in f.top xs f.depth) n))))
     ∙ ap (λ (z : Calls). record z { calls = c ∷ z.calls }) e
 
 -- the frame that waits innermost runs
-pub ended : (f : Inside) (old : Calls) (x y spare : Held) → IsFrames f → calls_of f ≡ old → 0 < length old.calls → y ≡ get_or f.frames.items (f.depth - 1) y → x ≡ y
-    → calls_of (record f { top = x; frames = with_item f.frames (f.depth - 1) spare; depth = f.depth - 1 }) ≡ record old { calls = drop 1 old.calls }
-ended f old x y spare inv e some at same =
+pub ended : (f : Inside) (old : Calls) (x y spare : Held) (fs : ArrayVec Held) → IsFrames f → calls_of f ≡ old → 0 < length old.calls
+    → fs.items ≡ set f.frames.items (f.depth - 1) spare → y ≡ get_or f.frames.items (f.depth - 1) y → x ≡ y
+    → calls_of (record f { top = x; frames = fs; depth = f.depth - 1 }) ≡ record old { calls = drop 1 old.calls }
+ended f old x y spare fs inv e some stored at same =
     let all : Calls = calls_of f in
     let F : List Call → Calls = λ z. record all { calls = z } in
     let xs = f.frames.items in
@@ -64,8 +66,8 @@ ended f old x y spare inv e some at same =
     let many = inv.all in
     let h : f.depth - 1 < length xs = omega (arith, k, deep, many) in
     let is : x ≡ get_or xs (f.depth - 1) no_frame = same ∙ (at ∙ get_or_default xs (f.depth - 1) y no_frame h) in
-    ap F (below x xs (f.depth - 1) (f.depth - 1) spare (omega arith)
-    ∙ (ap (λ (z : Held). calls_in z xs (f.depth - 1)) is ∙ ap (λ (n : ℕ). drop 1 (calls_in f.top xs n)) (sym k)))
+    ap F (ap (λ (zs : List Held). calls_in x zs (f.depth - 1)) stored ∙ (below x xs (f.depth - 1) (f.depth - 1) spare (omega arith)
+    ∙ (ap (λ (z : Held). calls_in z xs (f.depth - 1)) is ∙ ap (λ (n : ℕ). drop 1 (calls_in f.top xs n)) (sym k))))
     ∙ ap (λ (z : Calls). record z { calls = drop 1 z.calls }) e
 
 -- the running frame has changed

@@ -11,6 +11,7 @@ use crate::slot::{Entry, Role, Slot};
 use arena_heap::{DictNo, ExcNo, Value};
 use mpy_base::NoMemory;
 use std::alloc::Global;
+use std::default::MadeWith;
 use std::marker::Model;
 
 /// The memory of one call. It is taken once, and serves one call after another.
@@ -42,6 +43,25 @@ impl Model for Frame {
     ghost view = { held_of };
 
     ghost invariant = { IsFrame };
+}
+
+/// A frame without room, which takes no memory.
+impl MadeWith<Global> for Frame {
+    fn made_with(alloc: Global) -> Frame {
+        Frame {
+            module_number: 0,
+            code: 0,
+            at: 0,
+            names: DictNo { cell: 0 },
+            role: Role::Main,
+            locals: Vec::new(alloc),
+            slots: Vec::new(alloc),
+            height: 0,
+            entries: Vec::new(alloc),
+            slot_room: 0,
+            entry_room: 0,
+        }
+    }
 }
 
 /// What the last of the entries keeps that keeps something.

@@ -10,6 +10,7 @@ use crate::frame::Frame;
 use crate::moves;
 use crate::slot::{Entry, Role, Slot};
 use arena_heap::{DictNo, ExcNo, Value};
+use arrayvec::ArrayVec;
 use mpy_base::NoMemory;
 use mpy_base::limits::MAX_CALLS;
 use std::alloc::Global;
@@ -22,7 +23,7 @@ pub struct Frames {
     /// The frame of the running call.
     top: Frame,
     /// Those of the calls that wait stand at places 1 and up, the outermost first. The others are spare.
-    frames: Vec<Frame>,
+    frames: ArrayVec<Frame, MAX_CALLS, Global>,
     depth: usize,
     slot_room: u32,
     entry_room: u32,
@@ -41,12 +42,16 @@ impl Model for Frames {
 }
 
 /// As many frames as calls nest, with this room each.
-fn make_frames(alloc: Global, slots: u32, entries: u32) -> Result<Vec<Frame>, NoMemory>
+fn make_frames(
+    alloc: Global,
+    slots: u32,
+    entries: u32,
+) -> Result<ArrayVec<Frame, MAX_CALLS, Global>, NoMemory>
     ensures { IfOk result (λ v. (length v.items ≡ LIMIT) × All (HasRoom slots entries) v.items) }
 {
-    let mut frames = Vec::with_capacity(alloc, MAX_CALLS)?;
+    let mut frames = ArrayVec::new_in(alloc);
     for _i in 0..MAX_CALLS {
-        frames.push(Frame::new(alloc, slots, entries)?)?;
+        frames.push(Frame::new(alloc, slots, entries)?);
     }
     Ok(frames)
 }
