@@ -116,8 +116,8 @@ returns-in-Ok-clause-handed_on g c = λ s. absurd (not_unsaved c.run_for-end.res
 -- it wasn't begun
 -- ===============
 
-pub returns-in-Err-clause-handed_on : goal.returns-in-Err-clause-handed_on
-returns-in-Err-clause-handed_on g c = λ s. absurd (subst IsUnloaded s (subst (λ (r : Result Ready Ending). IfErr r IsUnloaded) c.in-Err.is c.requires.unloaded))
+pub returns-clause-handed_on : goal.returns-clause-handed_on
+returns-clause-handed_on g c = λ s. absurd (subst IsUnloaded s (subst (λ (r : Result Ready Ending). IfErr r IsUnloaded) c.in-Err.is c.requires.unloaded))
 
 pub returns-clause-went : goal.returns-clause-went
 returns-clause-went g c =
