@@ -19,7 +19,7 @@ use Rattle.bc_flow.specs.Action.{Action, action}
 use Rattle.bc_flow.specs.Code.{Code, code_of}
 use Rattle.bc_flow.specs.declared.code.Code.{Code as RustCode}
 use Rattle.bc_flow.specs.Edges.{Edge, Way, edge_of, edges, ways, falls, target, change, behind, runs, next_way, jump_way, raise_ways, run_ways, holds, finds, room, stays}
-use Rattle.bc_flow.specs.Holes.{without, filled, Away, Passes}
+use Rattle.bc_flow.specs.Holes.{without, filled, going, jumping, raising, leaving, Away, Passes}
 use Rattle.bc_flow.specs.Queue.{Queued}
 use Rattle.bc_flow.specs.Spans.{Changed, EachOutside, Outside, Since, StillHolds, updated}
 use Rattle.bc_flow.specs.Verified.{Assigned, Cell, Unseen, Pending, Done, Table, Visit, Bad, Good, after_put, agree, agrees, at, done_at, meet, others, put, put_next, visit, IsPending, here, later}
@@ -302,3 +302,6 @@ states_within t p x w = pending_in t p x w
 pub passes_are : (code : Code) (t : Table) (p : ℕ) (x y : At) (i : Action) (s : Span) (es : List Edge) → y ≡ x → StillHolds code t p y i s → finds i y ≡ true → runs i (length y.entries) ≡ 0 → es ≡ edges code i p y → Away p es → Passes code t p x i s
 passes_are code t p x y i s es e still found none is away =
     subst (λ z. Passes code t p z i s) e (record { still = still; height = found; none_run = none; away = subst (Away p) is away })
+
+pub leaving_are : (code : Code) (i : Action) (p : ℕ) (x : At) (size : ℕ) → length code.actions ≡ size → runs i (length x.entries) ≡ 0 → leaving i p size x ≡ edges code i p x
+leaving_are code i p x size long none = edges_are code i p x size (going i p size x) (jumping i x) (raising i x) long none refl refl refl

@@ -9,7 +9,7 @@ ghost use Rattle.bc_shapes.specs.declared.span.Span.{Span as SpecSpan};
 ghost use Rattle.bc_shapes.specs.Views.{at_of};
 ghost use Rattle.bc_flow.specs.Edges as edges_specs;
 ghost use Rattle.bc_flow.specs.Code.{Code as SpecCode, code_of};
-ghost use Rattle.bc_flow.specs.Holes.{Away, Passes, filled, leaving_list, without};
+ghost use Rattle.bc_flow.specs.Holes.{Away, Passes, filled, leaving, leaving_list, without};
 ghost use Rattle.bc_flow.specs.Verified as specs;
 ghost use Rattle.bc_flow.specs.Verified.{IsPending, Assigned, at, done_at};
 ghost use Rattle.bc_flow.specs.Queue.{Queued};
@@ -207,25 +207,33 @@ fn put_leaving(
     states: &mut Vec<State>,
     queue: &mut BinaryHeap<Reverse<usize>>,
     changes: &mut Vec<Option<Span>>,
-    leaving: Leaving,
+    action: &Action,
+    p: usize,
+    size: usize,
+    x: &Shape,
     among: Option<Span>,
 ) -> Result<bool, NoMemory>
-    requires agree { specs.agree (table_of states.now.items) (leaving_list leaving) ≡ true }
-    requires outside { EachOutside among (at (table_of states.now.items)) (leaving_list leaving) }
+    requires within { p < size }
+    requires agree { specs.agree (table_of states.now.items) (leaving (action_of action.now) p size (at_of x.now)) ≡ true }
+    requires outside { EachOutside among (at (table_of states.now.items)) (leaving (action_of action.now) p size (at_of x.now)) }
     ensures table { IfOk result (λ b. has_if b states.new.items
-        ≡ specs.put_next (leaving_list leaving.entry) (Some (table_of states.old.items))) }
+        ≡ specs.put_next (leaving (action_of action.now) p size (at_of x.now)) (Some (table_of states.old.items))) }
     ensures queued { Queued (table_of states.old.items) (heap_items queue.old)
         → IfOk result (λ b. OnTrue b (Queued (table_of states.new.items) (heap_items queue.new))) }
     ensures since { (old : Assigned) → Since old (at (table_of states.old.items)) changes.old.items
         → IfOk result (λ b. OnTrue b (Since old (at (table_of states.new.items)) changes.new.items)) }
 {
-    if !put_if(alloc, states, queue, changes, leaving.next, among)? {
+    let base = base(action, x);
+    let behind = entries_behind(change_of(action), x.slots.len(), &x.entries);
+    let next = next_if(action, p, size, behind, base);
+    if !put_if(alloc, states, queue, changes, next, among)? {
         return Ok(false);
     }
-    if !put_if(alloc, states, queue, changes, leaving.jump, among)? {
+    let jump = jump_edge(action, behind, base);
+    if !put_if(alloc, states, queue, changes, jump, among)? {
         return Ok(false);
     }
-    put_if(alloc, states, queue, changes, leaving.raise, among)
+    put_if(alloc, states, queue, changes, raise_edge(x), among)
 }
 
 /// Lets the shapes of the edges of a position that is out of the table arrive, or answers the rule that is broken.
@@ -235,19 +243,23 @@ fn leave(
     states: &mut Vec<State>,
     queue: &mut BinaryHeap<Reverse<usize>>,
     changes: &mut Vec<Option<Span>>,
-    leaving: Leaving,
+    action: &Action,
+    p: usize,
+    size: usize,
+    x: &Shape,
     among: Option<Span>,
 ) -> Result<Result<(), Rule>, NoMemory>
-    requires agree { specs.agree (table_of states.now.items) (leaving_list leaving) ≡ true }
-    requires outside { EachOutside among (at (table_of states.now.items)) (leaving_list leaving) }
+    requires within { p < size }
+    requires agree { specs.agree (table_of states.now.items) (leaving (action_of action.now) p size (at_of x.now)) ≡ true }
+    requires outside { EachOutside among (at (table_of states.now.items)) (leaving (action_of action.now) p size (at_of x.now)) }
     ensures table { IfOk result (λ r. visit_of r states.new.items
-        ≡ specs.after_put true true (specs.put_next (leaving_list leaving.entry) (Some (table_of states.old.items)))) }
+        ≡ specs.after_put true true (specs.put_next (leaving (action_of action.now) p size (at_of x.now)) (Some (table_of states.old.items)))) }
     ensures queued { Queued (table_of states.old.items) (heap_items queue.old)
         → IfOk result (λ r. OnOk r (Queued (table_of states.new.items) (heap_items queue.new))) }
     ensures since { (old : Assigned) → Since old (at (table_of states.old.items)) changes.old.items
         → IfOk result (λ r. OnOk r (Since old (at (table_of states.new.items)) changes.new.items)) }
 {
-    if put_leaving(alloc, states, queue, changes, leaving, among)? {
+    if put_leaving(alloc, states, queue, changes, action, p, size, x, among)? {
         Ok(Ok(()))
     } else {
         Ok(Err(Rule::Height))
@@ -282,8 +294,18 @@ pub(crate) fn pass(
 {
     let x = take_out(states, p);
     unnote(changes, p);
-    let ways = edges_from(action, p, code.items.len(), &x);
-    let left = leave(alloc, states, queue, changes, ways, Some(span));
+    let size = code.items.len();
+    let left = leave(
+        alloc,
+        states,
+        queue,
+        changes,
+        action,
+        p,
+        size,
+        &x,
+        Some(span),
+    );
     put_back(states, p, x);
     forget(changes, p);
     left
