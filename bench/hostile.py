@@ -5,8 +5,8 @@ import sys
 
 CODES = dict(JUMP=0x42, POP_JUMP_IF_TRUE=0x43, JUMP_IF_TRUE_OR_POP=0x45, SETUP_EXCEPT=0x48, SETUP_FINALLY=0x49, POP_EXCEPT_JUMP=0x4A,
              LOAD_CONST_NONE=0x51, LOAD_CONST_TRUE=0x52, DUP_TOP=0x57, DUP_TOP_TWO=0x58, POP_TOP=0x59, END_FINALLY=0x5D,
-             RETURN_VALUE=0x63, RAISE_LAST=0x64, BUILD_TUPLE=0x2A, UNPACK_SEQUENCE=0x30)
-SIGNED = ('JUMP', 'POP_JUMP_IF_TRUE')
+             RETURN_VALUE=0x63, RAISE_LAST=0x64, BUILD_TUPLE=0x2A, UNPACK_SEQUENCE=0x30, UNARY=0xD0)
+SIGNED = ('JUMP', 'POP_JUMP_IF_TRUE', 'POP_JUMP_IF_FALSE', 'UNWIND_JUMP')
 
 
 class Code:
@@ -31,6 +31,10 @@ class Code:
     def jump(self, name, label, far=True):
         return self.add((name, label, 2 if far else 1))
 
+    def unwind(self, label, left):
+        """A jump that leaves all entries but these."""
+        return self.add(('UNWIND_JUMP', label, 2)).add(('byte', left, 0))
+
     def label(self, label):
         return self.add((None, label, None))
 
@@ -45,6 +49,8 @@ class Code:
         name, n, width = part
         if name is None:
             return 0
+        if name == 'byte':
+            return 1
         return 1 + (width if width else 0 if n is None else len(number(n)))
 
     def bytes(self):
@@ -57,6 +63,9 @@ class Code:
         for part in self.parts:
             name, n, width = part
             if name is None:
+                continue
+            if name == 'byte':
+                out.append(n)
                 continue
             out.append(CODES[name])
             if width:
@@ -84,9 +93,12 @@ def offset(n, width, signed):
     return bytes([n & 127 | 128, n >> 7])
 
 
-def file_of(code):
-    """A file of one code, which has room for 4,096 slots and 255 entries."""
-    body = bytes.fromhex('fcb2b2b2b282820202 01'.replace(' ', '')) + code.bytes()
+GREATEST = bytes.fromhex('fcb2b2b2b2828202')  # room for 4,096 slots and 255 entries
+
+
+def file_of(code, room=None):
+    """A file of one code, which has the greatest room, or this."""
+    body = (room or GREATEST) + bytes([2, 1]) + code.bytes()
     assert len(body) <= 32767, len(body)
     return bytes.fromhex('4d06001f02000865') + b'.py\0\x0f' + number(len(body) * 8) + body
 
@@ -177,6 +189,53 @@ def unpacked(slots, count):
     return c.op('LOAD_CONST_NONE', 'RETURN_VALUE')
 
 
+def dense(heights, size):
+    """Branches on the slots themselves, each to one position further: two blocks in three bytes, over as many slots as may be."""
+    c = Code().op('LOAD_CONST_TRUE')
+    for n, height in enumerate(heights):
+        c.num('UNPACK_SEQUENCE', height).op('LOAD_CONST_TRUE').jump('POP_JUMP_IF_TRUE', ('high', n), False).label(('high', n))
+    count = 0
+    while c.length < size:
+        c.jump('POP_JUMP_IF_TRUE', ('l', count), False).op('UNARY').label(('l', count))
+        count += 1
+        if count % 62 == 0:
+            c.num('UNPACK_SEQUENCE', 63)
+    return c.op('LOAD_CONST_NONE', 'RETURN_VALUE')
+
+
+def bottoms(count, bits, tall, depth):
+    """Branches over slots of which the lowest ones differ from those of the branches before, within tries."""
+    c = Code()
+    for d in range(depth):
+        c.jump('SETUP_FINALLY', ('h', d))
+    for i in range(count):
+        c.op(*['LOAD_CONST_NONE' if i >> b & 1 else 'LOAD_CONST_TRUE' for b in range(bits)])
+        c.op('LOAD_CONST_TRUE').num('UNPACK_SEQUENCE', tall).op('LOAD_CONST_TRUE').jump('POP_JUMP_IF_TRUE', ('l', i), False).label(('l', i))
+        c.num('BUILD_TUPLE', tall).op('POP_TOP', *['POP_TOP'] * bits)
+    c.op('LOAD_CONST_NONE', 'RETURN_VALUE')
+    for d in reversed(range(depth)):
+        c.label(('h', d)).op('END_FINALLY', 'LOAD_CONST_NONE', 'RETURN_VALUE')
+    return c
+
+
+def late(slots, count):
+    """Open slots that all close at once, when the branches over them were looked at."""
+    c = Code().op('LOAD_CONST_NONE', 'LOAD_CONST_NONE', *['DUP_TOP_TWO'] * (slots // 2 - 1)).label(('hop', 0))
+    c.last = c.length
+    branches(c, count)
+    c.op('LOAD_CONST_TRUE').jump('POP_JUMP_IF_TRUE', 'end').num('BUILD_TUPLE', slots).num('UNPACK_SEQUENCE', slots)
+    return c.jump('JUMP', ('hop', c.hops)).label('end').op('LOAD_CONST_NONE', 'RETURN_VALUE')
+
+
+def dead(slots, count):
+    """Handlers that nothing comes to, behind a branch over many slots."""
+    c = Code().op('LOAD_CONST_TRUE').num('UNPACK_SEQUENCE', slots).op('LOAD_CONST_TRUE').jump('POP_JUMP_IF_TRUE', 'l', False).label('l')
+    c.op('LOAD_CONST_NONE', 'RETURN_VALUE')
+    for i in range(count):
+        c.jump('SETUP_FINALLY', ('f', i), False).label(('f', i)).op('END_FINALLY')
+    return c
+
+
 def plain(count):
     """No jump at all."""
     return Code().op(*['LOAD_CONST_NONE', 'POP_TOP'] * (count // 2), 'LOAD_CONST_NONE', 'RETURN_VALUE')
@@ -202,6 +261,14 @@ HOSTILE = {
     'tries-in-250': tries(250, 6000, 3500),
     'excepts-4000': excepts(4000, 6500),
     'unpacked-4000': unpacked(4000, 2500),
+    'dense-4090': dense([4090], 32690),
+    'dense-above-3590': dense([3590, 501], 32690),
+    'tries-over-4080': tries(0, 7900, 4080),
+    'bottoms-1': bottoms(2000, 1, 4000, 0),
+    'bottoms-4': bottoms(1500, 4, 4000, 0),
+    'bottoms-4-in-200': bottoms(1400, 4, 3990, 200),
+    'late-3000': late(3000, 6800),
+    'dead-9000': dead(4090, 9000),
     'plain': plain(32700),
     'refused-closing-400': refused(closing(400, 0, 2500)),
 }

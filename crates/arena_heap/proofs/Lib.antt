@@ -10,6 +10,7 @@ pub mod LinkCells
 pub mod ListCells
 pub mod ListSeen
 pub mod Moves
+pub mod NamedKeys
 pub mod NewObjects
 pub mod PartSeen
 pub mod Regions

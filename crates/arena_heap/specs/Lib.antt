@@ -3,4 +3,5 @@ pub mod Cells
 pub mod Constants
 pub mod Dicts
 pub mod Links
+pub mod Named
 pub mod Values

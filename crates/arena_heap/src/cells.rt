@@ -67,6 +67,7 @@ pub(crate) enum Cell {
 
 impl Cell {
     /// The cell that holds the value.
+    #[inline(always)]
     pub(crate) fn of(v: Value) -> Cell
         ensures { result ≡ cell_of v }
     {
@@ -92,6 +93,7 @@ impl Cell {
     }
 
     /// The value in the cell, and None where it holds none.
+    #[inline(always)]
     pub(crate) fn value(self) -> Value
         ensures { result ≡ value_of self }
     {

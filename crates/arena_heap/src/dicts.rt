@@ -6,6 +6,7 @@ ghost use Rattle.qstr_pool.specs.mpy_base.World.{ADict, IsA, Later, pairs_at, ro
 ghost use Rattle.qstr_pool.specs.mpy_base.Weights.{Fits, Refused, dict_growth, with_dict_room, with_pairs};
 ghost use Rattle.arena_heap.specs.Values.{Leads, IsKey};
 ghost use Rattle.arena_heap.specs.Dicts.{with_value};
+ghost use Rattle.arena_heap.specs.Named.{IsNamedAt};
 ghost use Rattle.arena_heap.specs.Links.{IsLast, text_code, bucket_of, buckets_at};
 
 use crate::arena::Arena;
@@ -18,6 +19,7 @@ use crate::value::{DictNo, Value};
 use qstr_pool::NoRoom;
 
 /// How many pairs a dict has.
+#[inline(always)]
 pub fn dict_len(arena: &Arena, d: DictNo) -> u32
     requires { IsA arena.now.objects ADict d.cell }
     ensures { result ≡ length (pairs_at arena.now d.cell) }
@@ -34,6 +36,7 @@ pub fn dict_room(arena: &Arena, d: DictNo) -> u32
 }
 
 /// The pair at a place: its key and its value.
+#[inline(always)]
 pub fn dict_at(arena: &Arena, d: DictNo, at: u32) -> Option<(Value, Value)>
     requires { IsA arena.now.objects ADict d.cell }
     ensures pair { result ≡ slice_get (pairs_at arena.now d.cell) at }
@@ -50,6 +53,27 @@ pub fn dict_at(arena: &Arena, d: DictNo, at: u32) -> Option<(Value, Value)>
     } else {
         None
     }
+}
+
+/// The place of the first pair whose key is the text of this number, or that no key is. It answers nothing at a key in front of
+/// that pair which is no text with a number: its bytes may be the same. It costs a cell for each pair up to there.
+#[inline(always)]
+pub fn dict_named(arena: &Arena, d: DictNo, number: u32) -> Option<Option<u32>>
+    requires { IsA arena.now.objects ADict d.cell }
+    ensures { IfSome result (IsNamedAt (pairs_at arena.now d.cell) number) }
+{
+    let region = dict_region(&arena.cells, d.cell);
+    for at in 0..region.len {
+        match arena.cells[(region.start + 3 * at) as usize] {
+            Cell::Pool(other) => {
+                if other == number {
+                    return Some(Some(at));
+                }
+            }
+            _ => return None,
+        }
+    }
+    Some(None)
 }
 
 /// One more than the place of the last pair in a key's bucket, or 0 where there is none. Equal keys have one bucket, unless

@@ -8,6 +8,7 @@ use crate::cells::{Cell, Region, Span};
 use qstr_pool::{Builtin, Kind};
 
 /// Where a list's items lie.
+#[inline(always)]
 pub(crate) fn list_region(cells: &Vec<Cell>, at: u32) -> Region
     requires within { at < length cells.now.items }
     requires list { kind_at (heads cells.now.items at) ≡ Some AList }
@@ -20,6 +21,7 @@ pub(crate) fn list_region(cells: &Vec<Cell>, at: u32) -> Region
 }
 
 /// Where a dict's pairs lie.
+#[inline(always)]
 pub(crate) fn dict_region(cells: &Vec<Cell>, at: u32) -> Region
     requires within { at < length cells.now.items }
     requires dict { kind_at (heads cells.now.items at) ≡ Some ADict }
@@ -56,6 +58,7 @@ pub(crate) fn text_span(cells: &Vec<Cell>, at: u32) -> Span
 }
 
 /// The numbers of a function's name, its module and its code.
+#[inline(always)]
 pub(crate) fn fun_head(cells: &Vec<Cell>, at: u32) -> (u32, u32, u32)
     requires within { at < length cells.now.items }
     requires function { kind_at (heads cells.now.items at) ≡ Some AFunction }
@@ -92,6 +95,7 @@ pub(crate) fn bound_method(cells: &Vec<Cell>, at: u32) -> Builtin
 }
 
 /// The start, the stop and the step of a range.
+#[inline(always)]
 pub(crate) fn range_head(cells: &Vec<Cell>, at: u32) -> (i32, i32, i32)
     requires within { at < length cells.now.items }
     requires range { kind_at (heads cells.now.items at) ≡ Some ARange }

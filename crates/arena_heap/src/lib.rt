@@ -18,8 +18,8 @@ mod value;
 pub use arena::Arena;
 pub use constants::Constants;
 pub use dicts::{
-    dict_at, dict_before, dict_last, dict_last_text, dict_len, dict_push, dict_remove_at,
-    dict_room, dict_set_at,
+    dict_at, dict_before, dict_last, dict_last_text, dict_len, dict_named, dict_push,
+    dict_remove_at, dict_room, dict_set_at,
 };
 pub use lists::{
     list_append, list_at, list_insert, list_len, list_pop, list_room, list_set, put_in_list,

@@ -28,6 +28,7 @@ pub(crate) fn move_cells(cells: &mut Vec<Cell>, start: u32, len: u32, rest: u32)
 }
 
 /// How many items a list has.
+#[inline(always)]
 pub fn list_len(arena: &Arena, l: ListNo) -> u32
     requires { IsA arena.now.objects AList l.cell }
     ensures { result ≡ length (items_at arena.now l.cell) }
@@ -44,6 +45,7 @@ pub fn list_room(arena: &Arena, l: ListNo) -> u32
 }
 
 /// The item at a place.
+#[inline(always)]
 pub fn list_at(arena: &Arena, l: ListNo, at: u32) -> Option<Value>
     requires { IsA arena.now.objects AList l.cell }
     ensures item { result ≡ slice_get (items_at arena.now l.cell) at }
@@ -59,6 +61,7 @@ pub fn list_at(arena: &Arena, l: ListNo, at: u32) -> Option<Value>
 }
 
 /// Puts a value in the place of an item.
+#[inline(always)]
 pub fn list_set(arena: &mut Arena, l: ListNo, at: u32, v: Value) -> Option<()>
     requires list { IsA arena.old.objects AList l.cell }
     requires leads { Leads arena.old.objects v }

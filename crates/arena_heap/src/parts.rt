@@ -20,6 +20,7 @@ pub fn object_at(arena: &Arena, cell: u32) -> Option<ObjectNo>
 }
 
 /// The numbers of a function's name, its module and its code, then its namespace and its defaults.
+#[inline(always)]
 pub fn fun_parts(arena: &Arena, f: FunNo) -> (u32, u32, u32, DictNo, Value)
     requires { IsA arena.now.objects AFunction f.cell }
     ensures parts { object arena.now.objects f.cell ≡ Some (FunctionObject result.0 result.1 result.2 result.3.cell result.4) }
@@ -59,6 +60,7 @@ pub fn method_parts(arena: &Arena, m: MethodNo) -> (Value, Builtin)
 }
 
 /// The start, the stop and the step of a range.
+#[inline(always)]
 pub fn range_parts(arena: &Arena, r: RangeNo) -> (i32, i32, i32)
     requires { IsA arena.now.objects ARange r.cell }
     ensures parts { object arena.now.objects r.cell ≡ Some (RangeObject result.0 result.1 result.2) }

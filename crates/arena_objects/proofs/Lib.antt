@@ -1,6 +1,7 @@
 pub use Rattle.arena_heap.proofs as arena_heap_lemmas
 mod IterableExamples
 pub mod AfterSet
+pub mod NamedPlaces
 pub mod Numbered
 pub mod Places
 pub mod Tolds

@@ -16,7 +16,7 @@ same_bytes : (a b : List ℕ) → TextKey a ≡ TextKey b → a ≡ b
 same_bytes a b e = cc
 
 module _ (texts : StrNo → Option (List ℕ)) (one_number : (text : List ℕ) (m n : ℕ) → texts (Pool m) ≡ Some text → texts (Pool n) ≡ Some text → m ≡ n) (key : PlainKey) (m n : ℕ) (sought : option_map TextKey (texts (Pool n)) ≡ Some key) where
-  numbers_same : option_map TextKey (texts (Pool m)) ≡ Some key → m ≡ n
+  pub numbers_same : option_map TextKey (texts (Pool m)) ≡ Some key → m ≡ n
   numbers_same other =
       let a = text_under (texts (Pool m)) key other in
       let b = text_under (texts (Pool n)) key sought in

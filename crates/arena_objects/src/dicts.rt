@@ -16,6 +16,7 @@ use arena_heap::{
 use py_values::NoRoom;
 
 /// The value of a key.
+#[inline(always)]
 pub fn dict_get<C: Constants>(arena: &Arena, consts: &C, d: DictNo, key: Value) -> Option<Value>
     requires dict { IsA arena.now.objects ADict d.cell }
     requires key { IsKey key }

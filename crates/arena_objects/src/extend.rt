@@ -17,6 +17,7 @@ use arena_heap::{
 use py_values::NoRoom;
 
 /// How many items an iterable has. A str has none yet.
+#[inline(always)]
 pub fn item_count<C: Constants>(arena: &Arena, consts: &C, from: Value) -> u32
     requires leads { Leads arena.now.objects from }
     requires told { IsTold (C.text_of consts.now) (C.items_of consts.now) from }
@@ -36,6 +37,7 @@ pub fn item_count<C: Constants>(arena: &Arena, consts: &C, from: Value) -> u32
 }
 
 /// The item of an iterable at a place.
+#[inline(always)]
 pub fn item_at<C: Constants>(arena: &Arena, consts: &C, from: Value, at: u32) -> Value
     requires leads { Leads arena.now.objects from }
     requires told { IsTold (C.text_of consts.now) (C.items_of consts.now) from }

@@ -13,11 +13,14 @@ ghost use Rattle.arena_objects.specs.PlainKeys.{plain};
 use crate::keys::Key;
 use arena_heap::{
     Arena, Constants, DictNo, StrNo, Value, dict_at, dict_before, dict_last, dict_last_text,
-    dict_len,
+    dict_len, dict_named,
 };
 
 /// Up to this many pairs of a dict are looked through one by one.
 const FEW_PAIRS: u32 = 8;
+
+/// Up to this many pairs of a dict are looked through for the number of a text.
+const FEW_NAMES: u32 = 32;
 
 /// Whether a key of a dict is equal to the one that is sought. Two texts of the constants are told apart by their numbers.
 fn is_sought<C: Constants>(arena: &Arena, consts: &C, other: Value, key: Value, sought: Key) -> bool
@@ -246,14 +249,9 @@ fn by_links<C: Constants>(
     }
 }
 
-/// The place of the first pair whose key is equal. It costs the pairs of a few buckets, and those of constant strs that have
-/// no number; all pairs where they are few, or a text that is a key was written later.
-pub(crate) fn place_of<C: Constants>(
-    arena: &Arena,
-    consts: &C,
-    d: DictNo,
-    key: Value,
-) -> Option<u32>
+/// The first pair with this key, by a walk over all pairs where they are few, or else by the links.
+#[inline(never)]
+fn by_key<C: Constants>(arena: &Arena, consts: &C, d: DictNo, key: Value) -> Option<u32>
     requires dict { IsA arena.now.objects ADict d.cell }
     requires key { IsKey key }
     requires leads { Leads arena.now.objects key }
@@ -269,5 +267,47 @@ pub(crate) fn place_of<C: Constants>(
     match by_links(arena, consts, d, key, sought) {
         Some(found) => found,
         None => in_dict(arena, consts, d, key, sought),
+    }
+}
+
+/// The first pair with this key, if it is a text with a number, and so are the keys in front of that pair; of a dict with few
+/// pairs alone.
+#[inline(always)]
+fn by_number<C: Constants>(arena: &Arena, consts: &C, d: DictNo, key: Value) -> Option<Option<u32>>
+    requires dict { IsA arena.now.objects ADict d.cell }
+    requires told { IsTold (C.text_of consts.now) (C.items_of consts.now) key }
+    ensures found { IfSome result (λ found. IfSome found (StandsAt (C.text_of consts.now) arena.now d.cell key)) }
+    ensures none { IfSome result (λ found. IfNone found (Lacks (C.text_of consts.now) arena.now d.cell key)) }
+{
+    let Value::Str(StrNo::Pool(number)) = key else {
+        return None;
+    };
+    if dict_len(arena, d) > FEW_NAMES {
+        return None;
+    }
+    consts.one_number_law();
+    dict_named(arena, d, number)
+}
+
+/// The place of the first pair whose key is equal. It costs the pairs of a few buckets, and those of constant strs that have
+/// no number; all pairs where they are few, or a text that is a key was written later.
+#[inline(always)]
+pub(crate) fn place_of<C: Constants>(
+    arena: &Arena,
+    consts: &C,
+    d: DictNo,
+    key: Value,
+) -> Option<u32>
+    requires dict { IsA arena.now.objects ADict d.cell }
+    requires key { IsKey key }
+    requires leads { Leads arena.now.objects key }
+    requires told { IsTold (C.text_of consts.now) (C.items_of consts.now) key }
+    requires all_told { AllTold (C.text_of consts.now) (C.items_of consts.now) arena.now.objects }
+    ensures found { IfSome result (StandsAt (C.text_of consts.now) arena.now d.cell key) }
+    ensures none { IfNone result (Lacks (C.text_of consts.now) arena.now d.cell key) }
+{
+    match by_number(arena, consts, d, key) {
+        Some(found) => found,
+        None => by_key(arena, consts, d, key),
     }
 }

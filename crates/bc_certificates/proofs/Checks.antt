@@ -3,30 +3,37 @@ use Rattle.std.proofs.Common.{◌≡◌, ℕ, zero, suc, ◌+◌, ◌<◌, ◌�
 use Rattle.std.specs.Prelude.{nat_lt, slice_get, option_map}
 use Rattle.std.proofs.lemmas.Bool.{and_parts, and_from, true≢false, false≢true}
 use Rattle.std.proofs.lemmas.List.{map-append}
+use Rattle.std.proofs.lemmas.Option.{slice_get_past, slice_get_read}
 use Rattle.bc_flow.specs.bc_shapes.declared.shape.Shape.{Shape}
 use Rattle.bc_flow.specs.bc_shapes.declared.shape.Entry.{Entry}
 use Rattle.bc_flow.specs.bc_shapes.Shape.{At, Under}
-use Rattle.bc_flow.specs.bc_shapes.Views.{at_of}
 use Rattle.bc_flow.specs.declared.edges.Change.{Change}
 use Rattle.bc_flow.specs.Action.{Action}
 use Rattle.bc_flow.specs.Code.{Code}
 use Rattle.bc_flow.specs.Edges.{Way, Edge, behind, change, falls, stays, is_marked, edges_marked}
 use Rattle.bc_flow.specs.Verified.{none, also, begin}
+use Rattle.bc_certificates.specs.declared.certificate.Row.{Row}
 use Rattle.bc_certificates.specs.Rows.{Rows, row, goes_on, fall, at_if, fallen, brought, or_else, carried}
-use Rattle.bc_certificates.specs.Checking.{rows_of, Kept, Lead, Stands, Falls, arriving, Begins}
+use Rattle.bc_certificates.specs.Checking.{at_row, Kept, Lead, Stands, Falls, arriving, Begins}
 use Rattle.bc_certificates.proofs.Carrying.{each_append}
 
 -- Rows.
 
-pub row_in : (rows : List (Option Shape)) (p : ℕ) (o : Option Shape) → p < length rows → o ≡ get_or rows p o → row (rows_of rows) p ≡ option_map at_of o
-row_in [] p o lt e = absurd (omega (arith, lt))
-row_in (r ∷ rows) zero o lt e = ap (option_map at_of) (sym e)
-row_in (r ∷ rows) (suc p) o lt e = row_in rows p o (omega (arith, lt)) e
+pub row_in : (bases : List Shape) (rows : List (Option Row)) (p : ℕ) (o : Option Row) → p < length rows → o ≡ get_or rows p o → row (map (option_map (at_row bases)) rows) p ≡ option_map (at_row bases) o
+row_in bases [] p o lt e = absurd (omega (arith, lt))
+row_in bases (r ∷ rows) zero o lt e = ap (option_map (at_row bases)) (sym e)
+row_in bases (r ∷ rows) (suc p) o lt e = row_in bases rows p o (omega (arith, lt)) e
 
-pub row_past : (rows : List (Option Shape)) (p : ℕ) → length rows ≤ p → row (rows_of rows) p ≡ None
-row_past [] p le = refl
-row_past (r ∷ rows) zero le = absurd (omega (arith, le))
-row_past (r ∷ rows) (suc p) le = row_past rows p (omega (arith, le))
+pub row_past : (bases : List Shape) (rows : List (Option Row)) (p : ℕ) → length rows ≤ p → row (map (option_map (at_row bases)) rows) p ≡ None
+row_past bases [] p le = refl
+row_past bases (r ∷ rows) zero le = absurd (omega (arith, le))
+row_past bases (r ∷ rows) (suc p) le = row_past bases rows p (omega (arith, le))
+
+pub base_in : (bases : List Shape) (n : ℕ) (b : Shape) → n < length bases → b ≡ get_or bases n b → slice_get bases n ≡ Some b
+base_in bases n b lt e = slice_get_read bases (length bases) n b refl lt e
+
+pub base_past : (bases : List Shape) (n : ℕ) → length bases ≤ n → slice_get bases n ≡ None
+base_past bases n le = slice_get_past bases n le
 
 -- Edges that lead.
 
@@ -54,13 +61,16 @@ lead_others rows f js rs fs a b c =
 -- One position.
 
 -- the flow goes on where the instruction does
-pub goes : (code : Code) (rows : Rows) (i : Action) (p : ℕ) (x : At) → Stands code rows i p x → falls i ≡ true → goes_on code p i ≡ true
+pub goes_from : (code : Code) (i : Action) (p : ℕ) → stays code i p ≡ true → falls i ≡ true → goes_on code p i ≡ true
 unfolding stays
-goes code rows i p x s f = and_from (falls i) (nat_lt (suc p) (length code.actions)) f (by_stays (falls i) (nat_lt (suc p) (length code.actions)) f s.falls)
+goes_from code i p s f = and_from (falls i) (nat_lt (suc p) (length code.actions)) f (by_stays (falls i) (nat_lt (suc p) (length code.actions)) f s)
   where
     by_stays : (a b : Bool) → a ≡ true → (not a || b) ≡ true → b ≡ true
     by_stays true b e h = h
     by_stays false b e h = absurd (false≢true e)
+
+pub goes : (code : Code) (rows : Rows) (i : Action) (p : ℕ) (x : At) → Stands code rows i p x → falls i ≡ true → goes_on code p i ≡ true
+goes code rows i p x s f = goes_from code i p s.falls f
 
 pub ends : (code : Code) (p : ℕ) (i : Action) → falls i ≡ false → goes_on code p i ≡ false
 ends code p i f = ap (λ b. b && nat_lt (suc p) (length code.actions)) f

@@ -4,13 +4,13 @@ use Rattle.std.specs.Prelude.{nat_lt, slice_get}
 use Rattle.std.proofs.lemmas.Bool.{and_parts, and_from}
 use Rattle.std.proofs.lemmas.Option.{none-some}
 use Rattle.std.proofs.lemmas.Bool.Decides.{nat_tests}
-use Rattle.bc_flow.specs.bc_shapes.declared.shape.Shape.{Shape}
 use Rattle.bc_flow.specs.bc_shapes.declared.shape.Entry.{Entry}
 use Rattle.bc_flow.specs.bc_shapes.Shape.{At}
 use Rattle.bc_flow.specs.Action.{Action}
 use Rattle.bc_flow.specs.Code.{Code}
 use Rattle.bc_flow.specs.Edges.{Way, Next, arrive, behind, change, edge_of, falls, holds, is_marked, all_marked, ways, next_way, jump_way, raise_ways, run_ways, runs, target}
 use Rattle.bc_flow.proofs.Loops.{marks_are}
+use Rattle.bc_certificates.specs.declared.certificate.Table.{Table}
 use Rattle.bc_certificates.specs.Rows.{Rows, row, goes_on, fall, at_if, fallen, brought, or_else, carried, other_ways, other_edges, Keeps, Certifies}
 use Rattle.bc_certificates.specs.Checking.{rows_of, Begins, Kept, Lead}
 use Rattle.bc_certificates.proofs.Carrying.{ways_are}
@@ -66,10 +66,10 @@ none_past : (code : Code) (rows : Rows) (q : ℕ) → length code.actions ≤ q 
 none_past code rows zero le r = r
 none_past code rows (suc q) le r = ap (λ o. or_else o (brought code q (carried code rows q))) r ∙ past_none code rows q (carried code rows q) le
 
-pub ends_all : (code : Code) (rows : List (Option Shape)) (p : ℕ) (o : Option At) → length rows ≤ length code.actions → length code.actions ≤ p → Begins (rows_of rows) → Checked code (rows_of rows) p o → Certifies code (rows_of rows)
-ends_all code rows p o few past start c = record {
+pub ends_all : (code : Code) (t : Table) (p : ℕ) (o : Option At) → length t.rows.items ≤ length code.actions → length code.actions ≤ p → Begins (rows_of t) → Checked code (rows_of t) p o → Certifies code (rows_of t)
+ends_all code t p o few past start c = record {
   start = start;
-  keeps = λ q x e. keeps code (rows_of rows) q x (kept q x e) (others q x e);
+  keeps = λ q x e. keeps code (rows_of t) q x (kept q x e) (others q x e);
 }
   where
     le_lt : (q n : ℕ) → (q < n) ⊎ (n ≤ q)
@@ -81,19 +81,19 @@ ends_all code rows p o few past start c = record {
         by (inl a) = inl (omega (arith, a))
         by (inr a) = inr (omega (arith, a))
 
-    by_order : (q : ℕ) (x : At) → carried code (rows_of rows) q ≡ Some x → (q < length code.actions) ⊎ (length code.actions ≤ q) → Kept code (rows_of rows) q x
+    by_order : (q : ℕ) (x : At) → carried code (rows_of t) q ≡ Some x → (q < length code.actions) ⊎ (length code.actions ≤ q) → Kept code (rows_of t) q x
     by_order q x e (inl lt) = c.keeps q x (omega (arith, lt, past)) e
-    by_order q x e (inr le) = absurd (none-some x (sym (none_past code (rows_of rows) q le (row_past rows q (omega (arith, le, few)))) ∙ e))
+    by_order q x e (inr le) = absurd (none-some x (sym (none_past code (rows_of t) q le (row_past t.bases.items t.rows.items q (omega (arith, le, few)))) ∙ e))
 
-    kept : (q : ℕ) (x : At) → carried code (rows_of rows) q ≡ Some x → Kept code (rows_of rows) q x
+    kept : (q : ℕ) (x : At) → carried code (rows_of t) q ≡ Some x → Kept code (rows_of t) q x
     kept q x e = by_order q x e (le_lt q (length code.actions))
 
-    raises : (q : ℕ) (x : At) → carried code (rows_of rows) q ≡ Some x → Raises (rows_of rows) q x
+    raises : (q : ℕ) (x : At) → carried code (rows_of t) q ≡ Some x → Raises (rows_of t) q x
     raises q x e = record { action = (kept q x e).action; order = (kept q x e).stands.order; lead = (kept q x e).stands.raises }
 
-    others : (q : ℕ) (x : At) (e : carried code (rows_of rows) q ≡ Some x) → Lead (rows_of rows) (other_edges (kept q x e).action x)
+    others : (q : ℕ) (x : At) (e : carried code (rows_of t) q ≡ Some x) → Lead (rows_of t) (other_edges (kept q x e).action x)
     others q x e =
         let k = kept q x e in
         let i = k.action in
-        lead_others (rows_of rows) (edge_of i x) (jump_way (target i) (behind (change i) (length x.slots) x.entries)) (raise_ways x.entries) (run_ways (runs i (length x.entries)) x.entries)
-        k.stands.jumps k.stands.raises (runs_lead code (rows_of rows) raises i q x (runs i (length x.entries)) e)
+        lead_others (rows_of t) (edge_of i x) (jump_way (target i) (behind (change i) (length x.slots) x.entries)) (raise_ways x.entries) (run_ways (runs i (length x.entries)) x.entries)
+        k.stands.jumps k.stands.raises (runs_lead code (rows_of t) raises i q x (runs i (length x.entries)) e)

@@ -3,3 +3,4 @@ pub mod Carrying
 pub mod Chains
 pub mod Checks
 pub mod Ends
+pub mod Plain

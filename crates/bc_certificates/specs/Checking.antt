@@ -1,18 +1,32 @@
 -- What a check of rows finds out of one position.
-use Rattle.std.specs.Prelude.{◌≡◌, ℕ, zero, suc, true, ◌&&◌, ◌||◌, List, [], ◌∷◌, length, map, Option, None, IfSome, nat_le, nat_lt, option_map, slice_get, Some, Bool, if◌then◌else◌}
+use Rattle.std.specs.Prelude.{◌≡◌, ℕ, zero, suc, true, false, ◌&&◌, ◌||◌, List, [], ◌∷◌, ◌++◌, ◌-◌, drop, length, map, Option, None, IfSome, nat_le, nat_lt, option_map, slice_get, Some, Bool, if◌then◌else◌}
 use Rattle.bc_flow.specs.bc_shapes.declared.shape.Shape.{Shape}
 use Rattle.bc_flow.specs.bc_shapes.declared.shape.Entry.{Entry}
 use Rattle.bc_flow.specs.bc_shapes.Shape.{At, Under}
+use Rattle.bc_certificates.specs.declared.certificate.Row.{Row}
+use Rattle.bc_certificates.specs.declared.certificate.Table.{Table}
 use Rattle.bc_flow.specs.bc_shapes.Views.{at_of}
-use Rattle.bc_flow.specs.Action.{Action}
+use Rattle.bc_flow.specs.Action.{Action, Straight}
 use Rattle.bc_flow.specs.Code.{Code}
 use Rattle.bc_flow.specs.Edges.{Edge, asks, behind, change, edge_of, edges_marked, is_marked, finds, jump_way, raise_ways, room, stays, target}
 use Rattle.bc_flow.specs.Verified.{Each, Leads, begin}
 use Rattle.bc_certificates.specs.Rows.{Rows, row, carried, brought, fall, goes_on}
 
+-- what holds where these are the topmost slots and entries, on that many of a base's lowest slots and entries, if there is the base
+abbrev pub on_base : At → ℕ → ℕ → Option Shape → At
+on_base x n m None = x
+on_base x n m (Some b) = record {
+  slots = x.slots ++ drop (length b.slots.items - n) b.slots.items;
+  entries = x.entries ++ drop (length b.entries.items - m) b.entries.items;
+}
+
+-- what a row says, over these bases
+abbrev pub at_row : List Shape → Row → At
+at_row bases r = on_base (at_of r.top) r.slots r.entries (slice_get bases r.base)
+
 -- the rows that the code's values are
-abbrev pub rows_of : List (Option Shape) → Rows
-rows_of rows = map (option_map at_of) rows
+abbrev pub rows_of : Table → Rows
+rows_of t = map (option_map (at_row t.bases.items)) t.rows.items
 
 -- each edge ends at a row that lies above what arrives, with each entry active exactly from its handler's position on
 pub record Lead (rows : Rows) (es : List Edge) : Type 0 where
@@ -74,3 +88,13 @@ pub record Kept (code : Code) (rows : Rows) (p : ℕ) (x : At) : Type 0 where
   pub is : slice_get code.actions p ≡ Some action
   pub stands : Stands code rows action p x
   pub next : goes_on code p action ≡ true → Falls rows (fall p action x)
+
+-- it takes and gives slots, and goes on
+abbrev pub is_straight : Action → Bool
+is_straight (Straight wants given) = true
+is_straight _ = false
+
+-- it does, and there are no entries
+abbrev pub is_plain : Action → List Entry → Bool
+is_plain i [] = is_straight i
+is_plain i (e ∷ es) = false

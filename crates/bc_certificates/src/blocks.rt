@@ -44,6 +44,8 @@ pub(crate) struct Block {
     pub height: usize,
     /// The topmost entry that it begins with.
     pub entry: usize,
+    /// The block from which an edge came here first.
+    pub source: usize,
     /// The entry that its last instruction pushes, once it was visited.
     pub made: usize,
 }
@@ -76,14 +78,19 @@ pub(crate) struct Walk {
     pub numbers: Vec<usize>,
     pub nodes: Vec<Node>,
     pub watched: Vec<Watched>,
-    /// The rows of all blocks, the lowest groups first.
+    /// The blocks that edges came to, in that order.
+    pub order: Vec<usize>,
+    /// The rows of all blocks, the lowest groups first; of the slots that stay, the number in `firms`.
     pub open: Vec<Open>,
-    pub firm: Vec<Firm>,
+    pub firm: Vec<u16>,
+    /// The first one has none.
+    pub firms: Vec<Firm>,
     /// The groups of each row that changed since the block was visited.
     pub changed: Vec<u64>,
     /// A bit for each block, which is set where it waits for a visit.
     pub pending: Vec<u64>,
-    /// The slots of the block that is walked, and where each came from.
+    /// The block that is walked, its slots, and where each came from.
+    pub walked: usize,
     pub slots: Vec<Group>,
     pub origins: Vec<usize>,
 }
@@ -102,6 +109,7 @@ pub(crate) fn block_from(position: usize, meets: bool, behind_setup: bool) -> Bl
         reached: false,
         height: 0,
         entry: NONE,
+        source: NONE,
         made: NONE,
     }
 }
@@ -159,13 +167,33 @@ pub(crate) fn place(walk: &Walk, g: usize, b: usize) -> usize {
     g.saturating_mul(walk.blocks.len()).saturating_add(b)
 }
 
+/// The number of the slots that stay in a group of a block's row.
+pub(crate) fn firm_number(walk: &Walk, g: usize, b: usize) -> u16 {
+    let at = place(walk, g, b);
+    if at < walk.firm.len() {
+        walk.firm[at]
+    } else {
+        0
+    }
+}
+
+/// The slots that stay, by their number.
+pub(crate) fn firm_of(walk: &Walk, number: u16) -> Firm {
+    let n = usize::from(number);
+    if n < walk.firms.len() {
+        walk.firms[n]
+    } else {
+        all_open().firm
+    }
+}
+
 /// A group of a block's row.
 pub(crate) fn row_group(walk: &Walk, g: usize, b: usize) -> Group {
     let at = place(walk, g, b);
-    if at < walk.open.len() && at < walk.firm.len() {
+    if at < walk.open.len() {
         Group {
             open: walk.open[at],
-            firm: walk.firm[at],
+            firm: firm_of(walk, firm_number(walk, g, b)),
         }
     } else {
         all_open()
@@ -173,11 +201,11 @@ pub(crate) fn row_group(walk: &Walk, g: usize, b: usize) -> Group {
 }
 
 /// Puts a group of a block's row.
-pub(crate) fn put_row_group(walk: &mut Walk, g: usize, b: usize, group: Group) {
+pub(crate) fn put_row_group(walk: &mut Walk, g: usize, b: usize, open: Open, firm: u16) {
     let at = place(walk, g, b);
     if at < walk.open.len() && at < walk.firm.len() {
-        walk.open[at] = group.open;
-        walk.firm[at] = group.firm;
+        walk.open[at] = open;
+        walk.firm[at] = firm;
     }
 }
 
@@ -189,8 +217,6 @@ pub(crate) fn groups_of(height: usize) -> usize {
 /// What an instruction says of the beginnings of blocks.
 enum Bound {
     Inside,
-    /// The position behind it begins one.
-    Behind,
     /// The position that it jumps to does.
     There,
     /// Both do.
@@ -208,7 +234,6 @@ fn jump_bound(op: Op) -> Bound {
 /// Where blocks begin for the sake of an item.
 fn bound_of(item: Item) -> Bound {
     match item {
-        Item::Plain(Instr::Plain(Op::EndFinally)) => Bound::Behind,
         Item::Plain(_) => Bound::Inside,
         Item::Jump(op, _) => jump_bound(op),
         Item::Unwind(_, _) => Bound::There,
@@ -253,13 +278,64 @@ fn begin_by(list: &mut Vec<Begin>, p: usize, item: Item) {
     let behind = p.saturating_add(1);
     match bound_of(item) {
         Bound::Inside => {}
-        Bound::Behind => note_beginning(list, behind, false, false),
         Bound::There => note_beginning(list, target_of(item), true, false),
         Bound::Both => {
             note_beginning(list, behind, false, is_setup(item));
             note_beginning(list, target_of(item), true, false);
         }
     }
+}
+
+/// Does the flow go on behind an item?
+fn goes_on(item: Item) -> bool {
+    !matches!(
+        item,
+        Item::Plain(Instr::Plain(Op::ReturnValue | Op::RaiseLast | Op::RaiseObj))
+            | Item::Jump(Op::Jump | Op::PopExceptJump, _)
+            | Item::Unwind(_, _)
+    )
+}
+
+/// Notes that the flow may come to a position, the first time among those to go on from.
+fn come(reached: &mut Vec<bool>, waiting: &mut Vec<usize>, p: usize) -> Result<(), NoMemory> {
+    if p < reached.len() && !reached[p] {
+        reached[p] = true;
+        waiting.push(p)?;
+    }
+    Ok(())
+}
+
+/// Notes where the flow may come from an item.
+fn come_from(
+    item: Item,
+    p: usize,
+    reached: &mut Vec<bool>,
+    waiting: &mut Vec<usize>,
+) -> Result<(), NoMemory> {
+    come(reached, waiting, target_of(item))?;
+    if goes_on(item) {
+        come(reached, waiting, p.saturating_add(1))?;
+    }
+    Ok(())
+}
+
+/// The positions that the flow may come to, by where instructions go, jump and have their handlers.
+fn reach(alloc: Global, code: &Code) -> Result<Vec<bool>, NoMemory> {
+    let mut reached = Vec::with_capacity(alloc, code.items.len())?;
+    for _item in &code.items {
+        reached.push(false)?;
+    }
+    let mut waiting = Vec::new(alloc);
+    come(&mut reached, &mut waiting, 0)?;
+    for _turn in 0..code.items.len() {
+        let Some(p) = waiting.pop() else {
+            return Ok(reached);
+        };
+        if p < code.items.len() {
+            come_from(code.items[p], p, &mut reached, &mut waiting)?;
+        }
+    }
+    Ok(reached)
 }
 
 /// How each position begins a block.
@@ -274,8 +350,11 @@ fn begins_of(alloc: Global, code: &Code) -> Result<Vec<Begin>, NoMemory> {
         })?;
     }
     note_beginning(&mut list, 0, true, false);
+    let reached = reach(alloc, code)?;
     for (p, item) in code.items.iter().enumerate() {
-        begin_by(&mut list, p, *item);
+        if p < reached.len() && reached[p] {
+            begin_by(&mut list, p, *item);
+        }
     }
     Ok(list)
 }
@@ -293,7 +372,7 @@ pub(crate) fn make_room(walk: &mut Walk, groups: usize) -> Result<(), NoMemory> 
     let room = groups.min(MOST).saturating_mul(walk.blocks.len());
     for _i in walk.open.len()..room {
         walk.open.push(all_open().open)?;
-        walk.firm.push(all_open().firm)?;
+        walk.firm.push(0)?;
     }
     Ok(())
 }
@@ -306,10 +385,13 @@ fn empty_walk(alloc: Global) -> Walk {
         numbers: Vec::new(alloc),
         nodes: Vec::new(alloc),
         watched: Vec::new(alloc),
+        order: Vec::new(alloc),
         open: Vec::new(alloc),
         firm: Vec::new(alloc),
+        firms: Vec::new(alloc),
         changed: Vec::new(alloc),
         pending: Vec::new(alloc),
+        walked: NONE,
         slots: Vec::new(alloc),
         origins: Vec::new(alloc),
     }
@@ -337,6 +419,7 @@ pub(crate) fn start(alloc: Global, code: &Code) -> Result<Walk, NoMemory> {
     push_blocks(alloc, code, &mut walk)?;
     let blocks = walk.blocks.len();
     let groups = groups_of(code.n_state).min(MOST);
+    walk.firms.push(all_open().firm)?;
     push_clear(&mut walk.changed, blocks)?;
     push_clear(&mut walk.pending, blocks / SIZE + 1)?;
     for _g in 0..groups {

@@ -97,6 +97,11 @@ pub(crate) fn only_kind(group: Group, slots: u64) -> Option<Kind> {
     }
 }
 
+/// Are the slots that stay the same, with the same kinds?
+pub(crate) fn same_firm(one: Firm, other: Firm) -> bool {
+    one.low == other.low && one.high == other.high
+}
+
 /// The bit of a slot in its group.
 pub(crate) fn bit(slot: usize) -> u64 {
     1u64 << (slot % SIZE)

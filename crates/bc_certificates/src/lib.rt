@@ -6,12 +6,15 @@ ghost use Rattle.bc_flow.specs.Verified.{Holds, Verified};
 ghost use Rattle.bc_certificates.specs.Rows.{Rows, carried, Certifies};
 
 mod blocks;
+mod certificate;
 mod checking;
 mod groups;
 mod passing;
 mod searching;
+mod sharing;
 mod walking;
 
+pub use certificate::{Row, Table};
 pub use checking::check;
 pub use searching::{certified, search};
 

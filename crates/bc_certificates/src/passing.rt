@@ -3,9 +3,10 @@
 ghost use Rattle.std.specs.Prelude.{◌<◌, length};
 
 use crate::blocks::{
-    Block, Exit, Walk, block_at, groups_of, make_room, place, put_block, put_row_group, row_group,
+    Block, Exit, Walk, block_at, firm_number, firm_of, groups_of, make_room, place, put_block,
+    put_row_group, row_group,
 };
-use crate::groups::{Group, MOST, Open, SIZE, below, bit, group_at, only_slots};
+use crate::groups::{Firm, Group, MOST, Open, SIZE, below, bit, group_at, only_slots, same_firm};
 use mpy_base::NoMemory;
 
 /// Puts a block among those that wait for a visit.
@@ -95,6 +96,39 @@ fn same_lists(walk: &Walk, one: usize, other: usize) -> bool {
     a == b
 }
 
+/// A number for slots that stay in a group: that of the block that is walked, where they are the same there, or else the last one or a
+/// new one; none where there are too many.
+fn number_firm(walk: &mut Walk, g: usize, firm: Firm) -> Result<Option<u16>, NoMemory> {
+    let here = firm_number(walk, g, walk.walked);
+    if same_firm(firm_of(walk, here), firm) {
+        return Ok(Some(here));
+    }
+    if same_firm(firm_of(walk, 0), firm) {
+        return Ok(Some(0));
+    }
+    let count = walk.firms.len();
+    if count > 65535 {
+        return Ok(None);
+    }
+    if count > 0 && same_firm(walk.firms[count - 1], firm) {
+        return Ok(Some((count - 1) as u16));
+    }
+    walk.firms.push(firm)?;
+    Ok(Some(count as u16))
+}
+
+/// Makes the lowest slots of the walk the row of a block.
+fn put_groups(walk: &mut Walk, b: usize, height: usize) -> Result<bool, NoMemory> {
+    for g in 0..groups_of(height) {
+        let come = only_slots(group_at(&walk.slots, g), below(g, height));
+        match number_firm(walk, g, come.firm)? {
+            None => return Ok(false),
+            Some(number) => put_row_group(walk, g, b, come.open, number),
+        }
+    }
+    Ok(true)
+}
+
 /// Makes the lowest slots of the walk the row of a block that an edge comes to first.
 fn put_row(
     walk: &mut Walk,
@@ -102,19 +136,17 @@ fn put_row(
     block: Block,
     height: usize,
     entry: usize,
-) -> Result<(), NoMemory> {
+) -> Result<bool, NoMemory> {
     make_room(walk, groups_of(height))?;
     let mut first = block;
     first.reached = true;
     first.height = height;
     first.entry = entry;
+    first.source = walk.walked;
     put_block(walk, b, first);
-    for g in 0..groups_of(height) {
-        let come = only_slots(group_at(&walk.slots, g), below(g, height));
-        put_row_group(walk, g, b, come);
-    }
+    walk.order.push(b)?;
     wait(walk, b);
-    Ok(())
+    put_groups(walk, b, height)
 }
 
 /// Lets the lowest slots of the walk arrive at a block's row.
@@ -143,8 +175,7 @@ pub(crate) fn arrive(
     }
     let block = block_at(walk, b);
     if !block.reached {
-        put_row(walk, b, block, height, entry)?;
-        return Ok(true);
+        return put_row(walk, b, block, height, entry);
     }
     if block.height != height || !same_lists(walk, block.entry, entry) {
         return Ok(false);

@@ -6,14 +6,15 @@ ghost use Rattle.std.specs.Bool.{OnTrue};
 ghost use Rattle.bc_flow.specs.Code.{code_of};
 ghost use Rattle.bc_flow.specs.Verified.{Verified};
 
-use crate::blocks::{Block, Exits, NONE, Walk, block_at, exits_at, groups_of, row_group, start};
+use crate::blocks::{Exits, NONE, Walk, exits_at, row_group, start};
+use crate::certificate::{Row, Table};
 use crate::checking::check;
-use crate::groups::{Group, SIZE, below, bit, kind_of, only_kind};
+use crate::groups::{SIZE, bit};
 use crate::passing::{arrive, pass, take_changes};
+use crate::sharing::share;
 use crate::walking::{Lists, no_lists, walk_block};
 use bc_flow::{Code, nothing};
 use bc_ops::Item;
-use bc_shapes::{Entry, Kind, Shape};
 use mpy_base::NoMemory;
 use std::alloc::Global;
 
@@ -109,77 +110,6 @@ fn visit_all(alloc: Global, code: &Code, walk: &mut Walk) -> Result<bool, NoMemo
     Ok(true)
 }
 
-/// Adds the lowest `count` slots of a group to a list, the topmost first.
-fn push_slots(slots: &mut Vec<Kind>, group: Group, count: usize) -> Result<(), NoMemory> {
-    if let Some(kind) = only_kind(group, below(0, count)) {
-        for _i in 0..count {
-            slots.push(kind)?;
-        }
-        return Ok(());
-    }
-    for i in 0..count {
-        slots.push(kind_of(group, bit(count - 1 - i)))?;
-    }
-    Ok(())
-}
-
-/// The slots of a block's row, the topmost first.
-fn slots_of(alloc: Global, walk: &Walk, b: usize, height: usize) -> Result<Vec<Kind>, NoMemory> {
-    let mut slots = Vec::with_capacity(alloc, height)?;
-    let groups = groups_of(height);
-    for i in 0..groups {
-        let g = groups - 1 - i;
-        let count = height.saturating_sub(g.saturating_mul(SIZE)).min(SIZE);
-        push_slots(&mut slots, row_group(walk, g, b), count)?;
-    }
-    Ok(slots)
-}
-
-/// The entries of a block's row, the topmost first.
-fn entries_of(alloc: Global, walk: &Walk, block: Block) -> Result<Vec<Entry>, NoMemory> {
-    let mut entries = Vec::new(alloc);
-    let mut at = block.entry;
-    for _turn in 0..walk.nodes.len() {
-        if at >= walk.nodes.len() {
-            return Ok(entries);
-        }
-        let node = walk.nodes[at];
-        entries.push(Entry {
-            handler: node.handler,
-            is_finally: node.is_finally,
-            active: node.handler <= block.position,
-            height: node.height,
-        })?;
-        at = node.below;
-    }
-    Ok(entries)
-}
-
-/// The row of a position, if edges may meet there and one was found.
-fn row_of(alloc: Global, walk: &Walk, b: usize) -> Result<Option<Shape>, NoMemory> {
-    let block = block_at(walk, b);
-    if !block.meets || !block.reached {
-        return Ok(None);
-    }
-    Ok(Some(Shape {
-        slots: slots_of(alloc, walk, b, block.height)?,
-        entries: entries_of(alloc, walk, block)?,
-    }))
-}
-
-/// The rows that a walk found.
-fn rows_of(alloc: Global, walk: &Walk) -> Result<Vec<Option<Shape>>, NoMemory> {
-    let mut rows = Vec::with_capacity(alloc, walk.numbers.len())?;
-    for b in &walk.numbers {
-        if *b == NONE {
-            rows.push(None)?;
-        } else {
-            rows.push(row_of(alloc, walk, *b)?)?;
-        }
-    }
-    Ok(rows)
-}
-
 /// Does any instruction jump, or have a handler? Else edges meet nowhere, and the row of the first position is all that is needed.
 fn any_jumps(code: &Code) -> bool {
     for item in &code.items {
@@ -192,14 +122,22 @@ fn any_jumps(code: &Code) -> bool {
 }
 
 /// The row of the first position alone.
-fn first_row(alloc: Global) -> Result<Vec<Option<Shape>>, NoMemory> {
-    let mut rows = Vec::new(alloc);
-    rows.push(Some(nothing(alloc)))?;
-    Ok(rows)
+fn first_row(alloc: Global) -> Result<Table, NoMemory> {
+    let mut rows = Vec::with_capacity(alloc, 1)?;
+    rows.push(Some(Row {
+        top: nothing(alloc),
+        base: 0,
+        slots: 0,
+        entries: 0,
+    }))?;
+    Ok(Table {
+        rows,
+        bases: Vec::new(alloc),
+    })
 }
 
 /// Rows for the positions where edges meet, if some were found.
-pub fn search(alloc: Global, code: &Code) -> Result<Option<Vec<Option<Shape>>>, NoMemory> {
+pub fn search(alloc: Global, code: &Code) -> Result<Option<Table>, NoMemory> {
     if code.items.is_empty() {
         return Ok(None);
     }
@@ -213,7 +151,9 @@ pub fn search(alloc: Global, code: &Code) -> Result<Option<Vec<Option<Shape>>>, 
     if !visit_all(alloc, code, &mut walk)? {
         return Ok(None);
     }
-    Ok(Some(rows_of(alloc, &walk)?))
+    walk.exits = Vec::new(alloc);
+    walk.watched = Vec::new(alloc);
+    Ok(Some(share(alloc, &walk)?))
 }
 
 /// Was a certificate found? Codes that have none are told `false`.
@@ -221,7 +161,7 @@ pub fn certified(alloc: Global, code: &Code) -> Result<bool, NoMemory>
     ensures { IfOk result (λ yes. OnTrue yes (Verified (code_of code.now))) }
 {
     match search(alloc, code)? {
-        Some(rows) => check(alloc, code, &rows),
+        Some(table) => check(alloc, code, &table),
         None => Ok(false),
     }
 }

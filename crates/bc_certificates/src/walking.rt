@@ -456,6 +456,7 @@ pub(crate) fn walk_block(
     b: usize,
 ) -> Result<bool, NoMemory> {
     begin_watch(walk, b);
+    walk.walked = b;
     let block = block_at(walk, b);
     load(walk, b, block.height);
     if !walk_raise(code, walk, b)? {

@@ -4,6 +4,7 @@ pub mod Decides
 pub mod Few
 pub mod Fronts
 pub mod Going
+pub mod Holes
 pub mod Items
 pub mod Judging
 pub mod Loops

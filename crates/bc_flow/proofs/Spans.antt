@@ -89,7 +89,7 @@ changed_more old a b p r s t f g k c =
       now = record { now = e.now; is = e.is; slots = same_trans r s t c.before.slots d.now.slots e.now.slots f g d.slots e.slots; entries = d.entries ∙ e.entries };
     }
 
-changed_at : (old a b : Assigned) (p : ℕ) (s : Span) → b p ≡ a p → Changed old a p s → Changed old b p s
+pub changed_at : (old a b : Assigned) (p : ℕ) (s : Span) → b p ≡ a p → Changed old a p s → Changed old b p s
 changed_at old a b p s e c =
     let d = c.now in
     record { before = c.before; was = c.was; now = record { now = d.now; is = e ∙ d.is; slots = d.slots; entries = d.entries } }
@@ -107,10 +107,10 @@ since_put old t u n x span ch new e k w o h = record { each = λ q s is. by_plac
         subst (λ z. Changed old (at u) z s) (sym g) (changed_more old (at t) (at u) n v.0 span s v.2 v.3 k (h.each n v.0 v.1))
     by_place q s is (inr g) = changed_at old (at t) (at u) q s (there q g) (h.each q s (sym (o q g) ∙ is))
 
-updated_here : (a : Assigned) (p : ℕ) (x : At) → updated a p x p ≡ Some x
+pub updated_here : (a : Assigned) (p : ℕ) (x : At) → updated a p x p ≡ Some x
 updated_here a p x = ap (λ b. if b then Some x else a p) (eq-eqb p p refl)
 
-updated_there : (a : Assigned) (p : ℕ) (x : At) (q : ℕ) → (q ≡ p → ⊥) → updated a p x q ≡ a q
+pub updated_there : (a : Assigned) (p : ℕ) (x : At) (q : ℕ) → (q ≡ p → ⊥) → updated a p x q ≡ a q
 updated_there a p x q g = ap (λ b. if b then Some x else a q) (differ (nat_eq q p) refl)
   where
     differ : (b : Bool) → nat_eq q p ≡ b → nat_eq q p ≡ false

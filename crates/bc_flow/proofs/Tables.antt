@@ -35,7 +35,7 @@ others_step e es k f lt h = ap (λ z. others e (map edge_of_rust z)) (drop_uncon
 pub agree_step : (t : Table) (es : List RustEdge) (k : ℕ) (e : RustEdge) → k < length es → e ≡ get_or es k e → agree t (map edge_of_rust (drop k es)) ≡ (agrees t e.to (edge_of_rust e).at.entries && others (edge_of_rust e) (map edge_of_rust (drop (k + 1) es)) && agree t (map edge_of_rust (drop (k + 1) es)))
 agree_step t es k e lt h = ap (λ z. agree t (map edge_of_rust z)) (drop_uncons es k e lt h)
 
-map-set : (cells : List State) (n : ℕ) (c : State) → map cell_of (set cells n c) ≡ set (map cell_of cells) n (cell_of c)
+pub map-set : (cells : List State) (n : ℕ) (c : State) → map cell_of (set cells n c) ≡ set (map cell_of cells) n (cell_of c)
 map-set [] n c = refl
 map-set (d ∷ cells) zero c = refl
 map-set (d ∷ cells) (suc n) c = ap (λ z. cell_of d ∷ z) (map-set cells n c)

@@ -38,7 +38,7 @@ action_is size (i ∷ items) (suc p) item lt e = action_is size items p item (om
 pub action_there : (size n : ℕ) (items : List Item) (p : ℕ) (item : Item) (a : Action) → n ≡ size → p < length items → item ≡ get_or items p item → a ≡ action n item → slice_get (map (action size) items) p ≡ Some a
 action_there size n items p item a l lt e f = action_is size items p item lt e ∙ ap Some (sym (f ∙ ap (λ z. action z item) l))
 
-visit_at : (code : Code) (t : Table) (p : ℕ) (x : At) (i : Action) (h f r s : Bool) (es : List Edge) → slice_get code.actions p ≡ Some i → h ≡ (holds code i p (length x.slots) x.entries && agree t (edges code i p x)) → f ≡ finds i x → r ≡ room code i x → s ≡ stays code i p → es ≡ edges code i p x → after_holds h f r s (put_next es (Some (done_at t p x))) ≡ visit code t p x
+pub visit_at : (code : Code) (t : Table) (p : ℕ) (x : At) (i : Action) (h f r s : Bool) (es : List Edge) → slice_get code.actions p ≡ Some i → h ≡ (holds code i p (length x.slots) x.entries && agree t (edges code i p x)) → f ≡ finds i x → r ≡ room code i x → s ≡ stays code i p → es ≡ edges code i p x → after_holds h f r s (put_next es (Some (done_at t p x))) ≡ visit code t p x
 visit_at code t p x i h f r s es e a b c d g =
     ap (λ z. after_holds z f r s (put_next es (Some (done_at t p x)))) a
     ∙ ap (λ z. after_holds (holds code i p (length x.slots) x.entries && agree t (edges code i p x)) z r s (put_next es (Some (done_at t p x)))) b

@@ -3,6 +3,7 @@ pub use Rattle.bc_shapes.specs.mpy_base
 pub mod Action
 pub mod Code
 pub mod Edges
+pub mod Holes
 pub mod Judged
 pub mod Machine
 pub mod Queue

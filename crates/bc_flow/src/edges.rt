@@ -118,6 +118,7 @@ impl<'a> Edge<'a> {
 }
 
 /// The slots that an instruction takes from the top.
+#[inline(always)]
 #[tactic(auto, unfolding(crate::specs::Edges::takes))]
 pub fn takes(action: &Action) -> Takes
     ensures { takes_of result ≡ specs.takes (action_of action.now) }
@@ -148,6 +149,7 @@ pub fn takes(action: &Action) -> Takes
 }
 
 /// What it gives where the flow goes on.
+#[inline(always)]
 #[tactic(auto, unfolding(crate::specs::Edges::gives))]
 pub fn gives(action: &Action) -> Gives
     ensures { gives_of result ≡ specs.gives (action_of action.now) }
@@ -162,6 +164,7 @@ pub fn gives(action: &Action) -> Gives
 }
 
 /// What it gives where it jumps.
+#[inline(always)]
 #[tactic(auto, unfolding(crate::specs::Edges::gives_there))]
 pub fn gives_there(action: &Action) -> Gives
     ensures { gives_of result ≡ specs.gives_there (action_of action.now) }
@@ -176,6 +179,7 @@ pub fn gives_there(action: &Action) -> Gives
 }
 
 /// Does the flow go on to the next instruction?
+#[inline(always)]
 #[tactic(auto, unfolding(crate::specs::Edges::falls))]
 pub fn falls(action: &Action) -> bool
     ensures { result ≡ specs.falls (action_of action.now) }
@@ -191,6 +195,7 @@ pub fn falls(action: &Action) -> bool
 }
 
 /// The position that an instruction jumps to, if it does.
+#[inline(always)]
 #[tactic(auto, unfolding(crate::specs::Edges::target))]
 pub fn target(action: &Action) -> Option<usize>
     ensures { result ≡ specs.target (action_of action.now) }
@@ -205,6 +210,7 @@ pub fn target(action: &Action) -> Option<usize>
 }
 
 /// What an instruction does with the handler entries.
+#[inline(always)]
 #[tactic(auto, unfolding(crate::specs::Edges::change))]
 pub fn change_of(action: &Action) -> Change
     ensures { result ≡ specs.change (action_of action.now) }
@@ -219,6 +225,7 @@ pub fn change_of(action: &Action) -> Change
 }
 
 /// How many of the `entries` entries it leaves, from the top: it runs the finallys among these.
+#[inline(always)]
 #[tactic(auto, unfolding(crate::specs::Edges::runs))]
 pub fn run_count(action: &Action, entries: usize) -> usize
     ensures { result ≡ specs.runs (action_of action.now) entries }
@@ -231,6 +238,7 @@ pub fn run_count(action: &Action, entries: usize) -> usize
 }
 
 /// The entries behind an instruction, where `slots` slots are before it.
+#[inline(always)]
 #[tactic(auto, using(crate::proofs::Loops::rest_drop))]
 pub fn entries_behind<'a>(change: Change, slots: usize, entries: &'a [Entry]) -> Behind<'a>
     ensures { behind_of result ≡ specs.behind change slots entries.now }
@@ -273,6 +281,7 @@ fn mark(to: usize, entry: Entry) -> Entry
 }
 
 /// The slot that a handler finds on top: a cause in a finally, and else an exception.
+#[inline(always)]
 fn first(is_finally: bool) -> &'static [Give]
     ensures { result.now ≡ (if is_finally then New Kind.Cause ∷ [] else New Kind.Either ∷ []) }
 {
@@ -284,6 +293,7 @@ fn first(is_finally: bool) -> &'static [Give]
 }
 
 /// The slots that a handler begins with.
+#[inline(always)]
 #[tactic(auto, using(crate::proofs::Loops::pushed_is))]
 fn pushed<'a>(is_finally: bool, slots: &'a [Kind], height: usize) -> Slots<'a>
     ensures { slots_of_rust result ≡ specs.pushed is_finally (drop (length slots.now - height) slots.now) }
@@ -299,6 +309,7 @@ fn pushed<'a>(is_finally: bool, slots: &'a [Kind], height: usize) -> Slots<'a>
 }
 
 /// The edge into a handler, over these entries.
+#[inline(always)]
 #[tactic(auto, unfolding(crate::specs::Edges::slots_of))]
 fn enter<'a>(x: &'a Shape, entry: Entry, below: &'a [Entry]) -> Edge<'a>
     ensures { (a : Does) → edge_of_rust result ≡ specs.edge_of a (at_of x.now) (specs.way_in entry below.now) }
@@ -321,6 +332,7 @@ fn enter<'a>(x: &'a Shape, entry: Entry, below: &'a [Entry]) -> Edge<'a>
 }
 
 /// The edge to the handler of the topmost entry that isn't active.
+#[inline(always)]
 pub fn raise_edge<'a>(x: &'a Shape) -> Option<Edge<'a>>
     ensures { (a : Does) → map edge_of_rust (option_list result) ≡ map (specs.edge_of a (at_of x.now))
         (specs.raise_ways x.now.entries.items) }
@@ -377,6 +389,7 @@ fn push_runs<'a>(
 }
 
 /// The edge to the next position, with these entries.
+#[inline(always)]
 pub fn next_edge<'a>(action: &Action, p: usize, behind: Behind<'a>, base: &'a [Kind]) -> Edge<'a>
     requires { p + 1 < 2 ^ 64 }
     ensures { (x : At) → base.now ≡ specs.base (action_of action.now) x
@@ -395,6 +408,7 @@ pub fn next_edge<'a>(action: &Action, p: usize, behind: Behind<'a>, base: &'a [K
 }
 
 /// The edge to the position that it jumps to, with these entries, if it does.
+#[inline(always)]
 pub fn jump_edge<'a>(action: &Action, behind: Behind<'a>, base: &'a [Kind]) -> Option<Edge<'a>>
     ensures { (x : At) → base.now ≡ specs.base (action_of action.now) x
         → map edge_of_rust (option_list result) ≡ map (specs.edge_of (action_of action.now) x)

@@ -4,6 +4,7 @@
 mod action;
 mod code;
 mod edges;
+mod passing;
 mod rules;
 mod walk;
 

@@ -128,6 +128,7 @@ fn lowest(count: usize, entries: &[Entry], slots: usize) -> usize
 }
 
 /// How many of `slots` slots it works on: those that remain when the entries are left that it leaves.
+#[inline(always)]
 pub fn left(change: Change, entries: &[Entry], slots: usize) -> usize
     ensures { result ≡ specs.left change entries.now slots }
 {
@@ -148,6 +149,7 @@ fn leaves(change: Change, entries: &[Entry], slots: usize) -> bool
 }
 
 /// The slots that an instruction works on: those that remain when the entries are left that it leaves.
+#[inline(always)]
 #[tactic(auto, unfolding(crate::specs::Edges::base))]
 pub fn base<'a>(action: &Action, x: &'a Shape) -> &'a [Kind]
     ensures { result.now ≡ specs.base (action_of action.now) (at_of x.now) }
@@ -181,6 +183,7 @@ pub fn finds(action: &Action, x: &Shape, base: &[Kind]) -> bool
 }
 
 /// As `finds`, where that held before slots of the span changed.
+#[inline(always)]
 #[tactic(auto, unfolding(crate::specs::Edges::finds))]
 pub(crate) fn finds_again(action: &Action, x: &Shape, base: &[Kind], span: Span) -> bool
     requires base_is { base.now ≡ specs.base (action_of action.now) (at_of x.now) }

@@ -21,6 +21,7 @@ ghost use Rattle.bc_flow.specs.Views.{action_of, edge_of_rust, cell_of, cell_if,
 use crate::action::{Action, action_at};
 use crate::code::{Code, Fault, Rule, locals};
 use crate::edges::{Edge, edges, gives, gives_there};
+use crate::passing::{pass, slots_to_pass};
 use crate::rules::{base, finds, finds_again, holds, room, stays};
 use bc_shapes::{Entry, Kind, NoMemory, Shape, Span, join, keeps_all, same_entry, union};
 use std::alloc::Global;
@@ -126,6 +127,7 @@ fn agree(states: &[State], edges: &[Edge]) -> bool
 }
 
 /// Marks a visited state as pending.
+#[inline(always)]
 fn reopen(state: &mut State)
     ensures { (x : At) → cell_of state.old ≡ specs.Done x → cell_of state.new ≡ specs.Pending x }
 {
@@ -136,6 +138,7 @@ fn reopen(state: &mut State)
 }
 
 /// Lets what an edge brings meet a state with the same entries, if it may.
+#[inline(always)]
 #[tactic(auto, using(crate::proofs::Spans::below_lies, crate::proofs::Spans::keeps_none, crate::proofs::Spans::keeps_slots, crate::proofs::Tables::meet_unseen, crate::proofs::Tables::meet_pending, crate::proofs::Tables::meet_changed, crate::proofs::Tables::meet_kept, crate::proofs::Tables::refuse_pending, crate::proofs::Tables::refuse_done))]
 fn meet(
     alloc: Global,
@@ -170,6 +173,7 @@ fn meet(
 }
 
 /// Lets what the edge brings arrive, if it may.
+#[inline(always)]
 fn put(
     alloc: Global,
     states: &mut Vec<State>,
@@ -188,8 +192,9 @@ fn put(
 }
 
 /// The slots of a position that changed since it was visited, or none where it wasn't.
+#[inline(always)]
 #[tactic(auto, using(crate::proofs::Spans::past_none))]
-fn changed_at(changes: &[Option<Span>], p: usize) -> Option<Span>
+pub(crate) fn changed_at(changes: &[Option<Span>], p: usize) -> Option<Span>
     ensures some { (s : SpecSpan) → result ≡ Some s → slice_get changes.now p ≡ Some (Some s) }
     ensures all { (s : SpecSpan) → slice_get changes.now p ≡ Some (Some s) → result ≡ Some s }
 {
@@ -197,6 +202,7 @@ fn changed_at(changes: &[Option<Span>], p: usize) -> Option<Span>
 }
 
 /// Adds slots to those of a position that changed since it was visited, if it was.
+#[inline(always)]
 fn widen(changes: &mut Vec<Option<Span>>, p: usize, span: Span)
     ensures here { (s : SpecSpan) → slice_get changes.new.items p ≡ Some (Some s) → (r : SpecSpan)
         × (slice_get changes.old.items p ≡ Some (Some r))
@@ -209,6 +215,7 @@ fn widen(changes: &mut Vec<Option<Span>>, p: usize, span: Span)
 }
 
 /// Does a position wait for its visit?
+#[inline(always)]
 fn is_pending(states: &[State], n: usize) -> bool
     ensures yes { OnTrue result ((y : At) × IsPending (table_of states.now) n y) }
     ensures no { OnFalse result ((y : At) → IsPending (table_of states.now) n y → ⊥) }
@@ -217,7 +224,8 @@ fn is_pending(states: &[State], n: usize) -> bool
 }
 
 /// Lets the shape of an edge arrive, if it may, and queues the position where it gets pending.
-fn put_edge(
+#[inline(always)]
+pub(crate) fn put_edge(
     alloc: Global,
     states: &mut Vec<State>,
     queue: &mut BinaryHeap<Reverse<usize>>,
@@ -298,7 +306,8 @@ struct Judged<'a> {
 }
 
 /// Does all that it gives again lie above the slots?
-fn is_clear(action: &Action, base: &[Kind], span: Span) -> bool
+#[inline(always)]
+pub(crate) fn is_clear(action: &Action, base: &[Kind], span: Span) -> bool
     ensures { OnTrue result (IsClear (action_of action.now) (length base.now) span) }
 {
     let above = base.len().saturating_sub(span.to);
@@ -400,7 +409,8 @@ fn judge<'a>(
 }
 
 /// None of a position's slots have changed since its visit.
-fn forget(changes: &mut Vec<Option<Span>>, p: usize)
+#[inline(always)]
+pub(crate) fn forget(changes: &mut Vec<Option<Span>>, p: usize)
     ensures { (q : ℕ) → (q ≡ p → ⊥) → slice_get changes.new.items q ≡ slice_get changes.old.items q }
 {
     if p < changes.len() {
@@ -479,7 +489,7 @@ fn read(x: &mut Shape, states: &[State], p: usize) -> Result<(), NoMemory>
 
 /// Tries the rules at a pending position, in their order, and lets its edges arrive. What holds there is copied into `x`
 /// meanwhile.
-fn visit(
+fn visit_anew(
     alloc: Global,
     code: &Code,
     locals: usize,
@@ -507,7 +517,39 @@ fn visit(
     act(alloc, states, queue, changes, p, &judged)
 }
 
+/// Visits a pending position. What holds there is copied into `x` only where it has to be judged anew.
+fn visit(
+    alloc: Global,
+    code: &Code,
+    locals: usize,
+    states: &mut Vec<State>,
+    queue: &mut BinaryHeap<Reverse<usize>>,
+    changes: &mut Vec<Option<Span>>,
+    x: &mut Shape,
+    p: usize,
+) -> Result<Result<(), Rule>, NoMemory>
+    requires long { length states.now.items ≡ length code.now.items.items }
+    requires within { p < length code.now.items.items }
+    requires pending { (x : At) × IsPending (table_of states.now.items) p x }
+    requires locals_are { locals ≡ (code_of code.now).locals }
+    requires remembers { (old : Assigned) × Remembers (code_of code.now) old (table_of states.now.items) changes.now.items }
+    ensures table { (x : At) → IsPending (table_of states.old.items) p x → IfOk result (λ r. visit_of r states.new.items
+        ≡ specs.visit (code_of code.now) (table_of states.old.items) p x) }
+    ensures queued { (x : At) → IsPending (table_of states.old.items) p x
+        → Queued (done_at (table_of states.old.items) p x) (heap_items queue.old)
+        → IfOk result (λ r. OnOk r (Queued (table_of states.new.items) (heap_items queue.new))) }
+    ensures remembers { IfOk result (λ r. OnOk r ((old : Assigned)
+        × Remembers (code_of code.now) old (table_of states.new.items) changes.new.items)) }
+{
+    let action = action_at(code.items.len(), code.items[p]);
+    match slots_to_pass(code, &action, states, changes, p) {
+        Some(span) => pass(alloc, code, &action, states, queue, changes, p, span),
+        None => visit_anew(alloc, code, locals, states, queue, changes, x, p),
+    }
+}
+
 /// Takes the least pending position out of the queue.
+#[inline(always)]
 fn least(states: &[State], queue: &mut BinaryHeap<Reverse<usize>>) -> Option<usize>
     requires { Queued (table_of states.now) (heap_items queue.now) }
     ensures some { IfSome result (λ p. (x : At) × IsLeast (table_of states.now) p x

@@ -1,11 +1,12 @@
 //! A code's bytes parted into the list of its instructions.
 
-ghost use Rattle.std.specs.Prelude.{◌≡◌, ◌<◌, ◌≤◌, ◌^◌, List, IfOk, All, length};
+ghost use Rattle.std.specs.Prelude.{◌≡◌, ◌≤◌, List, [], IfOk, length, map};
 ghost use Rattle.std.specs.List.Sorted.{IsStrictlyIncreasing};
 ghost use Rattle.bc_ops.specs.declared.listing.Item.{Item};
 ghost use Rattle.bc_ops.specs.Listing as specs;
 ghost use Rattle.bc_ops.specs.Listing.{IsListOf, Lists};
-ghost use Rattle.bc_ops.specs.Parting.{IsParted, items_in};
+ghost use Rattle.bc_ops.specs.Parting as parting;
+ghost use Rattle.bc_ops.specs.Parting.{IsParted};
 
 use crate::decoding::decode_at;
 use crate::instr::Instr;
@@ -21,37 +22,50 @@ pub struct Listed {
     pub offsets: Vec<usize>,
 }
 
-/// An instruction, and the offset that it ends at.
-#[derive(Clone, Copy)]
-struct Ended {
-    instr: Instr,
-    end: usize,
-}
-
-/// The instructions as their bytes have them.
+/// The items as their bytes have them, each jump with the offset that it goes to.
 #[derive(Drop)]
 struct Parted {
-    instrs: Vec<Ended>,
+    items: Vec<Item>,
     offsets: Vec<usize>,
+}
+
+/// The item of an instruction that ends at the offset, a jump with the offset that it goes to.
+#[inline(always)]
+fn parted_item(instr: Instr, end: usize) -> Item
+    requires { end ≤ MAX_CODE_BYTES }
+    ensures { result ≡ specs.item [] end instr }
+{
+    match instr {
+        Instr::Jump { op, offset, .. } => {
+            Item::Jump(op, Target::Offset(end as i64 + i64::from(offset)))
+        }
+        Instr::Unwind { offset, byte, .. } => {
+            let behind = end.saturating_sub(1) as i64;
+            Item::Unwind(Target::Offset(behind + i64::from(offset)), byte)
+        }
+        instr => Item::Plain(instr),
+    }
 }
 
 /// Reads one instruction behind the other.
 fn part(alloc: Global, code: &[u8]) -> Result<Parted, NoMemory>
-    requires { (items : List Item) × IsListOf code.now items }
-    ensures { IfOk result (λ parted. IsParted code.now parted.offsets.items parted.instrs.items) }
+    requires decodes { (items : List Item) × IsListOf code.now items }
+    requires short { length code.now ≤ MAX_CODE_BYTES }
+    ensures { IfOk result (λ parted. IsParted code.now parted.offsets.items parted.items.items) }
 {
-    let mut instrs = Vec::new(alloc);
-    let mut offsets = Vec::new(alloc);
+    let room = code.len() / 2;
+    let mut items = Vec::with_capacity(alloc, room)?;
+    let mut offsets = Vec::with_capacity(alloc, room)?;
     let mut at = 0;
     while at < code.len() {
         let Ok((instr, end)) = decode_at(code, at) else {
             unreachable!();
         };
         offsets.push(at)?;
-        instrs.push(Ended { instr, end })?;
+        items.push(parted_item(instr, end))?;
         at = end;
     }
-    Ok(Parted { instrs, offsets })
+    Ok(Parted { items, offsets })
 }
 
 /// The position of the instruction that starts at the offset, if one does.
@@ -68,36 +82,27 @@ fn target(starts: &[usize], offset: i64) -> Target
     }
 }
 
-/// The item of an instruction.
-fn item(starts: &[usize], ended: Ended) -> Item
-    requires rising { IsStrictlyIncreasing starts.now }
-    requires near { ended.end ≤ MAX_CODE_BYTES }
-    ensures { result ≡ specs.item starts.now ended.end ended.instr }
+/// The item, a jump with the position of the instruction that starts at its offset, if one does.
+#[inline(always)]
+fn placed(starts: &[usize], item: Item) -> Item
+    requires { IsStrictlyIncreasing starts.now }
+    ensures { result ≡ parting.placed starts.now item }
 {
-    let end = ended.end;
-    match ended.instr {
-        Instr::Jump { op, offset, .. } => {
-            Item::Jump(op, target(starts, end as i64 + i64::from(offset)))
-        }
-        Instr::Unwind { offset, byte, .. } => {
-            let behind = end.saturating_sub(1) as i64;
-            Item::Unwind(target(starts, behind + i64::from(offset)), byte)
-        }
-        instr => Item::Plain(instr),
+    match item {
+        Item::Jump(op, Target::Offset(offset)) => Item::Jump(op, target(starts, offset)),
+        Item::Unwind(Target::Offset(offset), byte) => Item::Unwind(target(starts, offset), byte),
+        item => item,
     }
 }
 
-/// The items of these instructions, each jump with the position that it names.
-fn items(alloc: Global, starts: &[usize], instrs: &[Ended]) -> Result<Vec<Item>, NoMemory>
-    requires rising { IsStrictlyIncreasing starts.now }
-    requires near { All (λ ended. ended.end ≤ MAX_CODE_BYTES) instrs.now }
-    ensures { IfOk result (λ v. v.items ≡ items_in starts.now instrs.now) }
+/// Gives each jump the position of the instruction that starts at its offset, if one does.
+fn place(starts: &[usize], items: &mut [Item])
+    requires { IsStrictlyIncreasing starts.now }
+    ensures { items.new ≡ map (parting.placed starts.now) items.old }
 {
-    let mut items = Vec::with_capacity(alloc, instrs.len())?;
-    for ended in instrs {
-        items.push(item(starts, *ended))?;
+    for item in items.iter_mut() {
+        *item = placed(starts, *item);
     }
-    Ok(items)
 }
 
 /// The list of a code's instructions.
@@ -106,10 +111,7 @@ pub fn items_of(alloc: Global, code: &[u8]) -> Result<Listed, NoMemory>
     requires short { length code.now ≤ MAX_CODE_BYTES }
     ensures { IfOk result (λ listed. Lists code.now listed.items.items listed.offsets.items) }
 {
-    let parted = part(alloc, code)?;
-    let items = items(alloc, &parted.offsets, &parted.instrs)?;
-    Ok(Listed {
-        items,
-        offsets: parted.offsets,
-    })
+    let Parted { mut items, offsets } = part(alloc, code)?;
+    place(&offsets, &mut items);
+    Ok(Listed { items, offsets })
 }

@@ -41,6 +41,7 @@ fn operands_count(number: u32) -> u32
 }
 
 /// CALL_FUNCTION: a value is called that lies below its operands.
+#[inline(always)]
 pub fn call_function<C: Constants>(
     frames: &Frames,
     arena: &Arena,
@@ -64,6 +65,7 @@ pub fn call_function<C: Constants>(
 }
 
 /// What is called where a look-up left these slots: a method of its object, or a value without one.
+#[inline(always)]
 fn looked_callee<C: Constants>(arena: &Arena, consts: &C, upper: Slot, lower: Slot) -> Callee
     requires looked { IsBound upper lower ⊎ IsFree upper lower }
     requires known_upper { under C.Constants consts.now IsKnownSlot arena.now.objects upper }

@@ -41,6 +41,7 @@ impl Model for Operands {
 }
 
 /// The value that a slot holds as a value, or None.
+#[inline(always)]
 pub(crate) fn value_of(slot: Slot) -> Value
     ensures { result ≡ value_in slot }
 {
@@ -60,6 +61,7 @@ pub(crate) fn slot_at(frames: &Frames, i: u32) -> Slot
 }
 
 /// The value of a slot of the running call, counted from the top.
+#[inline(always)]
 pub(crate) fn value_at(frames: &Frames, i: u32) -> Value
     requires { i < length (running_slots frames.now.calls) }
     ensures { slice_get (map value_in (running_slots frames.now.calls)) i ≡ Some result }
@@ -77,6 +79,7 @@ pub(crate) fn add<T: Drop>(items: &mut Vec<T>, item: T)
 }
 
 /// The values of `count` slots below the topmost `above`, the lowest first.
+#[inline(always)]
 fn fill_args(frames: &Frames, above: u32, count: u32, args: &mut Vec<Value>)
     requires there { above + count ≤ length (running_slots frames.now.calls) }
     requires few { above + count < 2 ^ 32 }
@@ -139,6 +142,7 @@ impl Operands {
     }
 
     /// Copies the operands that an instruction with this number has on top of the running call's slots. What was held is lost.
+    #[inline(always)]
     pub fn take(&mut self, frames: &Frames, number: u32)
         requires there { operands_count number ≤ length (running_slots frames.now.calls) }
         requires room { operands_count number ≤ self.old.room }

@@ -12,6 +12,7 @@ use arena_heap::{Arena, Constants};
 use prim_calls::{Callee, visits_call_builtin, visits_call_method};
 
 /// How many visits a call of this callee with these operands makes, up to `most`. It goes no further.
+#[inline(always)]
 pub fn visits_call<C: Constants>(
     arena: &Arena,
     consts: &C,

@@ -75,6 +75,7 @@ fn store<C: Constants>(
 }
 
 /// Gives the value of a call that was left, by its role, to the calls that wait.
+#[inline(always)]
 fn give<C: Constants>(
     frames: &Frames,
     arena: &mut Arena,
@@ -108,6 +109,7 @@ fn give<C: Constants>(
 }
 
 /// Returns a value from the running call: the innermost finally that is to run is entered, or else the call is left.
+#[inline(always)]
 pub(crate) fn leave<C: Constants>(
     frames: &mut Frames,
     arena: &mut Arena,

@@ -17,6 +17,7 @@ use prim_names::{delete_global, load_global, store_global};
 use prim_operators::Stop;
 
 /// LOAD_NAME and LOAD_GLOBAL.
+#[inline(always)]
 pub fn load_name<C: Constants>(
     frames: &mut Frames,
     arena: &Arena,

@@ -13,6 +13,7 @@ use prim_names::Looked;
 use prim_operators::Stop;
 
 /// The value in a slot, counted from the top.
+#[inline(always)]
 pub(crate) fn value_at<C: Constants>(
     frames: &Frames,
     _arena: &Arena,
@@ -33,6 +34,7 @@ pub(crate) fn value_at<C: Constants>(
 }
 
 /// A local of the running call.
+#[inline(always)]
 pub(crate) fn local_at<C: Constants>(
     frames: &Frames,
     _arena: &Arena,
@@ -57,6 +59,7 @@ pub(crate) fn drop_slots(frames: &mut Frames, count: u32)
 }
 
 /// A slot more on top, in the place of those that are taken.
+#[inline(always)]
 pub(crate) fn put_slot(frames: &mut Frames, taken: u32, slot: Slot)
     requires there { OfRunning (λ c. taken ≤ length c.slots) frames.old.calls }
     requires room { taken ≡ 0 → OfRunning (λ c. length c.slots < frames.old.slot_room) frames.old.calls }
@@ -72,6 +75,7 @@ pub(crate) fn put_slot(frames: &mut Frames, taken: u32, slot: Slot)
 
 /// The running call goes on at the end with a value in the place of the slots that are taken. Where there is none, the calls
 /// stay.
+#[inline(always)]
 pub(crate) fn put(
     frames: &mut Frames,
     taken: u32,

@@ -32,11 +32,11 @@ use Rattle.vm_machine.specs.vm_starting.Programs.{IsProgramOf}
 use Rattle.vm_machine.specs.vm_starting.declared.opening.Vm.{Vm}
 use Rattle.vm_machine.specs.Machine.{paid_state, world_in, machine_of}
 use Rattle.vm_machine.specs.Running.{Outside, Agree, RunsFor, Strays, SinkFails, RunsToFailure, Runs as MachineRuns}
-use Rattle.std.specs.Prelude.{slice_get}
+use Rattle.std.specs.Prelude.{◌≢◌, MatchOption, slice_get}
 use Rattle.library_runs.specs.declared.ending.RunEnd.{RunEnd}
 use Rattle.library_runs.specs.declared.ending.RunEnd.TheVariants as ends
 use Rattle.library_runs.specs.Reports.{answer_of, said_by}
-use Rattle.library_runs.specs.Runs.{Sight, IsSaid, IsOver, Ran, CutShort, Strayed, EndsSo, RunsAs, RunsSo, Says, end_of, said_of, begins_in}
+use Rattle.library_runs.specs.Runs.{Sight, IsSaid, IsOver, Ran, CutShort, Strayed, EndsSo, StandsAt, RunsAs, RunsSo, Says, end_of, said_of, begins_in}
 
 -- ends
 -- ====
@@ -153,6 +153,10 @@ module _ (starts_behind : StartsBehind) (runs_behind : RunsBehind) (put_stands :
 
   told_then : (n : ℕ) (new : Vm) (seen : Outside S) → (x : RunsFor told p vm here n new seen) → Tell seen.ports (r n).world.ports
   told_then n new seen x = subst (Tell seen.ports) (ap (λ (w : PlainWorld). w.ports) (world_is n new x.after x.steps)) x.agree.ports
+
+  -- where it stands behind these steps
+  pub stood : (n : ℕ) (new : Vm) (seen : Outside S) → (x : RunsFor told p vm here n new seen) → steps p.library n (start p.library name here) ≡ machine_of p new x.after
+  stood n new seen x = ap (steps p.library n) begins ∙ x.steps
 
   -- it ran to its end, or for all its steps, and what it printed was handed on
   pub ran : (n : ℕ) (new : Vm) (old behind_flush : Sight) (seen : Outside S) → old.out ≡ Some printed → RunsFor told p vm here n new seen
@@ -301,6 +305,18 @@ module _ (starts_behind : StartsBehind) (runs_behind : RunsBehind) (put_stands :
           | inr s ↦ inr (strayed starts_behind runs_behind put_stands told shelf p is n.name room ports printed vm opens steps old now s)
         ]
 
+    -- it took all its steps, and didn't end
+    pub stands_in_all : new.end ≡ None → StandsAt shelf n.name room steps old now new
+    stands_in_all still_open = record {
+      goes_on = still_open;
+      stands = λ p is ports printed e t.
+          let opens = opened p n.name ports is (main_named shelf p is main n at) in
+          elim (runs p is (begins_in p n.name room 0 ports printed) (agrees starts_behind runs_behind put_stands told shelf p is n.name room ports printed vm opens before e t)) [
+            | inl x ↦ inl (x.after, stood starts_behind runs_behind put_stands told shelf p is n.name room ports printed vm opens steps new behind x)
+            | inr s ↦ inr (strayed starts_behind runs_behind put_stands told shelf p is n.name room ports printed vm opens steps old now s)
+          ];
+    }
+
     -- it was made, and what it printed couldn't be handed on
     pub unflushed_in_all : (said : List ℕ) → (p : Program) → IsProgramOf shelf p → (ports : List PortState) (printed : List ℕ) → told before.out ≡ Some printed → Tell before.ports ports
         → EndsSo p n.name room steps ports old now ends.WriteFault said ⊎ Strayed p n.name room steps ports printed old now
@@ -310,6 +326,21 @@ module _ (starts_behind : StartsBehind) (runs_behind : RunsBehind) (put_stands :
           | inl x ↦ inl (ran_unflushed starts_behind runs_behind put_stands told shelf p is n.name room ports printed vm opens steps new old now behind e x kept refl)
           | inr s ↦ inr (strayed starts_behind runs_behind put_stands told shelf p is n.name room ports printed vm opens steps old now s)
         ]
+
+-- where a run stands that took all its steps
+-- ==========================================
+
+only_open : (end : Option End) → answer_of end ≡ ends.Limit → end ≡ None
+only_open None e = refl
+only_open (Some stops.Ended) e = absurd cc
+only_open (Some (stops.Raised x)) e = absurd cc
+only_open (Some (stops.Memory room)) e = absurd cc
+
+-- the machine is left exactly where the run was stopped by its steps
+pub leaves : (vm : Vm) (end : RunEnd) (left : Option Vm) (Stands : Vm → Type 0) → end ≡ answer_of vm.end → MatchOption left (vm.end ≢ None) (λ x. (x ≡ vm) × (vm.end ≡ None)) → (vm.end ≡ None → Stands vm)
+    → MatchOption left (end ≢ ends.Limit) (λ x. (end ≡ ends.Limit) × Stands x)
+leaves vm end None Stands e h s = λ limit. h (only_open vm.end (sym e ∙ limit))
+leaves vm end (Some x) Stands e h s = (e ∙ ap answer_of h.1, subst Stands (sym h.0) (s h.1))
 
 -- where each port's count of faults is accounted for
 -- ==================================================

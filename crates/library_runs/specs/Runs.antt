@@ -1,5 +1,5 @@
 -- How a run of a library of files ends, and what is seen of it.
-use Rattle.std.specs.Prelude.{◌≡◌, ◌⊎◌, ℕ, ◌+◌, ◌<◌, ◌≤◌, List, [], ◌++◌, map, Bool, true, false, Option, Some}
+use Rattle.std.specs.Prelude.{◌≡◌, ◌⊎◌, ℕ, ◌+◌, ◌<◌, ◌≤◌, List, [], ◌++◌, map, Bool, true, false, Option, None, Some}
 use Rattle.std.specs.Io.KnownBytes.{Appends}
 use Rattle.mpy_base.specs.declared.room.NoRoom.{NoRoom}
 use Rattle.mpy_base.specs.declared.room.Room.{Room}
@@ -16,7 +16,7 @@ use Rattle.vm_machine.specs.vm_frames.py_effects.Ends.{End, Run, end_report, new
 use Rattle.vm_machine.specs.vm_frames.py_effects.Growth.{Starts}
 use Rattle.bc_machine.specs.py_values.Shown.{PlainHeap}
 use Rattle.vm_machine.specs.vm_frames.bc_machine.Library.{Name}
-use Rattle.vm_machine.specs.vm_frames.bc_machine.Machine.{run, start}
+use Rattle.vm_machine.specs.vm_frames.bc_machine.Machine.{run, start, steps as steps_of}
 use Rattle.vm_machine.specs.vm_frames.bc_machine.Behind.{behind}
 use Rattle.prim_outputs.specs.Rooms.{room_line}
 use Rattle.vm_machine.specs.vm_starting.vm_states.Means.{Program}
@@ -130,6 +130,13 @@ module _ (p : Program) (name : Name) (room : Room) (steps : ℕ) (ports : List P
   EndsSo old new ends.Limit said = Ran old new ends.Limit said
   EndsSo old new ends.WriteFault said = CutShort old new
   EndsSo old new ends.NoMemory said = new ≡ old
+
+-- Where a run stands that took all its steps and didn't end: in each program of the library, where the sink told what was printed and the
+-- ports their contents, at the machine's state behind these steps
+pub record StandsAt (shelf : Shelf) (name : Name) (room : Room) (steps : ℕ) (old new : Sight) (vm : Vm) : Type 0 where
+  pub goes_on : vm.end ≡ None
+  pub stands : (p : Program) → IsProgramOf shelf p → (ports : List PortState) (printed : List ℕ) → old.out ≡ Some printed → Tell old.ports ports
+      → ((after : PlainWorld) × (steps_of p.library steps (start p.library name (begins_in p name room steps ports printed)) ≡ machine_of p vm after)) ⊎ Strayed p name room steps ports printed old new
 
 -- How a run of the library's module of this name ended, in this room and with this bound on its steps: so in each program of the
 -- library, of which there is one, where the sink told what was printed and the ports their contents.

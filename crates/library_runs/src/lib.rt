@@ -8,5 +8,5 @@ mod running;
 
 pub use ending::RunEnd;
 pub use laws::accounted_law;
-pub use running::run_library;
-pub use vm_machine::program_law;
+pub use running::{run_for, run_library};
+pub use vm_machine::{Vm, program_law};

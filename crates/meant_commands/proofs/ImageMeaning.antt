@@ -15,7 +15,6 @@ use Rattle.meant_files.specs.frozen_files.Frozen.{HoldsFrozen}
 use Rattle.meant_files.specs.Programs.{HoldsImageOf, IsImageOfSources, IsLibraryOf, IsProgramOf, Sources}
 use Rattle.run_commands.specs.mpy_endings.declared.ending.Ending.TheVariants.{Done}
 use Rattle.run_commands.specs.command_files.Images.{HoldsImage}
-use Rattle.run_commands.specs.image_runs.Main.{HoldsMain}
 use Rattle.run_commands.specs.declared.ready.Ready.{Ready}
 use Rattle.image_commands.specs.Freeze.{Freezes}
 use Rattle.image_commands.specs.Migrate.{Migrates}

@@ -1,9 +1,11 @@
 -- What a run that has ended says of its program.
-use Rattle.std.proofs.Common.{◌≡◌, inl, inr, ℕ, true, List, ◌∷◌, ◌++◌, Ok, Some, refl, sym, ap, subst, ◌∙◌, append-nil, length}
+use Rattle.std.proofs.Common.{◌≡◌, inl, inr, ℕ, true, List, [], ◌∷◌, ◌++◌, Ok, Option, Some, None, arith, refl, sym, ap, subst, ◌∙◌, append-nil, length}
+use Rattle.std.specs.Io.KnownBytes.{Appends}
 use Rattle.meant_files.specs.mpy_base.declared.room.Room.{Room}
 use Rattle.meant_files.specs.mpy_base.World.{PortState}
 use Rattle.meant_files.specs.mpy_io.Files.{FileOf}
 use Rattle.meant_files.specs.mpy_io.Ports.{PortView}
+use Rattle.meant_files.specs.mpy_io.Told.{AppendsFront}
 use Rattle.library_files.specs.bc_library.mpy_tree.File.{IsFile}
 use Rattle.library_files.specs.bc_library.mpy_tree.Raw.{Module}
 use Rattle.meant_files.specs.port_set.Calls.{Tell}
@@ -12,6 +14,7 @@ use Rattle.library_files.specs.bc_library.Shelf.{Shelf}
 use Rattle.meant_files.specs.py_values.Shown.{PlainHeap}
 use Rattle.meant_files.specs.py_effects.Ends.{End, Open, Ended, Raised, Memory, end_report}
 use Rattle.meant_files.specs.py_meaning.Program.{Unit, Program}
+use Rattle.meant_files.specs.py_meaning.Meaning.{meaning}
 use Rattle.meant_files.specs.prim_outputs.Rooms.{room_line}
 use Rattle.meant_files.specs.meant_runs.Units.{AreUnits}
 use Rattle.library_files.specs.Loads.{Loaded, LoadsFrom, main_name}
@@ -26,10 +29,12 @@ use Rattle.run_commands.specs.image_runs.declared.fault.MainFault.TheVariants as
 use Rattle.run_commands.specs.mpy_endings.declared.ending.Stop.TheVariants as stops
 use Rattle.run_commands.specs.Base.{base_of}
 use Rattle.run_commands.specs.mpy_endings.Ending.{IsRunStatus, status_of}
-use Rattle.run_commands.specs.mpy_endings.Line.{Says, line_of}
+use Rattle.run_commands.specs.mpy_endings.Line.{Says, line_of, name_in}
 use Rattle.run_commands.specs.command_files.Outside.{Outside}
 use Rattle.run_commands.specs.Ready.{RunLibrary, not_read, of_file, of_image, begins_image}
 use Rattle.run_commands.specs.Run.{FileLibrary, RanLibrary, Runs, EndsRun, ending_of, sight_in}
+use Rattle.run_commands.specs.library_runs.vm_starting.declared.opening.Vm.{Vm}
+use Rattle.run_commands.specs.Save.{EndsRunTo, RunsSaving, Suspends}
 use Rattle.meant_commands.specs.Meant.{HoldsBuilt, HoldsProgram, DoesAsMeant, Libraries, RunMeans, end_status, end_text}
 
 -- ends
@@ -56,6 +61,16 @@ not_run n a b c d (inl e) = a e
 not_run n a b c d (inr (inl e)) = b e
 not_run n a b c d (inr (inr (inl e))) = c e
 not_run n a b c d (inr (inr (inr e))) = d e
+
+-- what was printed begins a longer text
+whole_front : (old new : Option (List ℕ)) (text more whole : List ℕ) → whole ≡ text ++ more → Appends old new text → AppendsFront old new whole
+whole_front old new text more whole e h = record { front = text; rest = more; parts = e; added = h }
+
+limit_open : (end : End) → ends.Limit ≡ end_of end → end ≡ Open
+limit_open Open e = refl
+limit_open Ended e = absurd cc
+limit_open (Raised x) e = absurd cc
+limit_open (Memory room) e = absurd cc
 
 -- what the law below says of each library's run
 abbrev pub MeantLaw : Type 0
@@ -141,6 +156,7 @@ module _ (law : MeantLaw) (Comes : Libraries) (program : Program) (room : Room) 
   meant_by (Stopped stops.Memory) is says h = ran ends.Memory (over ends.Memory is says (not_eight 6 (λ e. absurd cc) is)) h
   meant_by (Stopped (stops.Steps count)) is says h =
       ran ends.Limit (over ends.Limit is (subst (λ (n : ℕ). SaysEnd (Stopped (stops.Steps n))) h.1 says) (not_eight 5 (λ e. absurd cc) is)) h.0
+  meant_by (Stopped stops.Unsaved) is says h = absurd h
   meant_by (Stopped (stops.Past limit)) is says h = none 11 (λ e. absurd cc) (λ e. absurd cc) (λ e. absurd cc) (λ e. absurd cc) (λ e. absurd cc) is
   meant_by (Stopped (stops.LibraryFault path)) is says h = none 7 (λ e. absurd cc) (λ e. absurd cc) (λ e. absurd cc) (λ e. absurd cc) (λ e. absurd cc) is
   meant_by (Stopped (stops.LibraryUnaccepted source)) is says h = none 3 (λ e. absurd cc) (λ e. absurd cc) (λ e. absurd cc) (λ e. absurd cc) (λ e. absurd cc) is
@@ -159,10 +175,73 @@ module _ (law : MeantLaw) (Comes : Libraries) (program : Program) (room : Room) 
   meant_by NoMemory is says h = none 9 (λ e. absurd cc) (λ e. absurd cc) (λ e. absurd cc) (λ e. absurd cc) (λ e. absurd cc) is
   meant_by Absent is says h = none 10 (λ e. absurd cc) (λ e. absurd cc) (λ e. absurd cc) (λ e. absurd cc) (λ e. absurd cc) is
 
+  -- a run whose state is saved
+  -- ==========================
+
+  module _ (snap : List ℕ) where
+    abbrev WentTo : Ending → Type 0
+    WentTo ending = RunsSaving (Comes old.files name) room steps before after said snap old.files new.files ending
+
+    abbrev SaysTo : Ending → Type 0
+    SaysTo ending = Says old.say new.say old.say_faults new.say_faults (said ++ line_of (name_in name snap ending) ending)
+
+    -- the state wasn't written
+    unwritten : status ≡ 8 → RanAsMeant program room steps ports before after ends.Limit said → Does
+    unwritten is h =
+        let stopped = h.means.stopped (limit_open h.run.end h.end_is) in
+        record {
+          ended = λ run_status. absurd (not_run 8 (λ e. absurd cc) (λ e. absurd cc) (λ e. absurd cc) (λ e. absurd cc) (subst IsRunStatus is run_status));
+          cut_short = λ e. record {
+            run = h.run;
+            means = h.means;
+            prints = whole_front old.out new.out h.run.world.output [] h.run.world.output (sym (append-nil h.run.world.output)) h.prints;
+            bound = stopped.bound;
+            prints_meant = whole_front old.out new.out h.run.world.output stopped.prints_on.rest (meaning program room.cells room.bytes ports stopped.bound).world.output stopped.prints_on.output h.prints;
+            taken = steps;
+            within = grind arith;
+            earlier = h.run;
+            earlier_means = h.means;
+            told = h.told;
+          };
+        }
+
+    suspended : {Saves : Shelf → Vm → Type 0} → Suspends (Comes old.files name) room steps before after said Saves → RanSo ends.Limit
+    suspended h = (h.ready, h.comes, h.runs)
+
+    pub meant_to : (ending : Ending) → status ≡ status_of ending → SaysTo ending → WentTo ending → Does
+    meant_to Done is says h = meant_by Done is says h.0
+    meant_to (Stopped stops.Raised) is says h = meant_by (Stopped stops.Raised) is says h.0
+    meant_to (Stopped stops.Memory) is says h = meant_by (Stopped stops.Memory) is says h.0
+    meant_to (Stopped (stops.Steps count)) is says h = meant_by (Stopped (stops.Steps count)) is says (suspended h.0, h.1)
+    meant_to (Stopped stops.Unsaved) is says h = none 13 (λ e. absurd cc) (λ e. absurd cc) (λ e. absurd cc) (λ e. absurd cc) (λ e. absurd cc) is
+    meant_to (Stopped (stops.Past limit)) is says h = meant_by (Stopped (stops.Past limit)) is says h.0
+    meant_to (Stopped (stops.LibraryFault path)) is says h = meant_by (Stopped (stops.LibraryFault path)) is says h.0
+    meant_to (Stopped (stops.LibraryUnaccepted source)) is says h = meant_by (Stopped (stops.LibraryUnaccepted source)) is says h.0
+    meant_to (Unaccepted fault) is says h = meant_by (Unaccepted fault) is says h.0
+    meant_to (Unread fault) is says h = meant_by (Unread fault) is says h.0
+    meant_to (Unverified fault) is says h = meant_by (Unverified fault) is says h.0
+    meant_to (Unmerged fault) is says h = absurd h.0
+    meant_to (Unopened fault) is says h = meant_by (Unopened fault) is says h.0
+    meant_to (Unfrozen fault) is says h = absurd h.0
+    meant_to (Unboarded fault) is says h = absurd h.0
+    meant_to (Different difference) is says h = absurd h.0
+    meant_to ReadFault is says h = meant_by ReadFault is says h.0
+    meant_to WriteFault is says h = meant_by WriteFault is says h.0
+    meant_to Unwritten is says h = ran ends.Limit (unwritten is) (suspended h)
+    meant_to NoMemory is says h = none 9 (λ e. absurd cc) (λ e. absurd cc) (λ e. absurd cc) (λ e. absurd cc) (λ e. absurd cc) is
+    meant_to Absent is says h = meant_by Absent is says h.0
+
 pub run_means : MeantLaw → (Comes : Libraries) (room : Room) (steps : ℕ) (name : List ℕ) (old new : Outside) (ports_old ports_new : List PortView) (status : ℕ)
     → EndsRun Comes room steps name old new ports_old ports_new status → RunMeans Comes room steps name old new ports_old ports_new status
 run_means law Comes room steps name old new ports_old ports_new status ended program holds ports printed ports_told accounted out_told =
     meant_by law Comes program room steps name old new ports_old ports_new ports printed holds ports_told accounted out_told status ended.said ended.ending ended.status_is ended.says ended.went
+
+pub run_to_means : MeantLaw → (snap : Option (List ℕ)) (Comes : Libraries) (room : Room) (steps : ℕ) (name : List ℕ) (old new : Outside) (ports_old ports_new : List PortView) (status : ℕ)
+    → EndsRunTo snap Comes room steps name old new ports_old ports_new status → RunMeans Comes room steps name old new ports_old ports_new status
+run_to_means law None Comes room steps name old new ports_old ports_new status ended program holds ports printed ports_told accounted out_told =
+    run_means law Comes room steps name old new ports_old ports_new status ended program holds ports printed ports_told accounted out_told
+run_to_means law (Some snap) Comes room steps name old new ports_old ports_new status ended program holds ports printed ports_told accounted out_told =
+    meant_to law Comes program room steps name old new ports_old ports_new ports printed holds ports_told accounted out_told status ended.said snap ended.ending ended.status_is ended.says ended.went
 
 -- the library of a file
 -- =====================

@@ -70,8 +70,8 @@ module _ (program : Program) (room : Room) (steps : ℕ) (ports : List PortState
     pub told : Tell ports_new run.world.ports
     pub says : Says old.say new.say old.say_faults new.say_faults (end_text steps run.world.heap run.end)
 
-  -- The sink of the output failed: what was printed begins the output of such a run, and what the program prints within some bound
-  -- of turns. The ports tell those of such a run for these steps, or for fewer.
+  -- The sink of the output failed, or the run's state wasn't written: what was printed begins the output of such a run, and what the
+  -- program prints within some bound of turns. The ports tell those of such a run for these steps, or for fewer.
   pub record PrintsFront : Type 0 where
     pub run : Run
     pub means : MeansRun program room.cells room.bytes ports steps run
@@ -84,7 +84,7 @@ module _ (program : Program) (room : Room) (steps : ℕ) (ports : List PortState
     pub earlier_means : MeansRun program room.cells room.bytes ports taken earlier
     pub told : Tell ports_new earlier.world.ports
 
-  -- the run does as the program means, and stops earlier only at its last step, or where the sink of its output failed
+  -- the run does as the program means, and stops earlier only at its last step, or where the sink of its output, or a write, failed
   pub record DoesAsMeant (status : ℕ) : Type 0 where
     pub ended : IsRunStatus status → PrintsAndEnds status
     pub cut_short : status ≡ 8 → PrintsFront

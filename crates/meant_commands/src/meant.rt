@@ -24,16 +24,21 @@ ghost use Rattle.run_commands.specs.command_files.Opened.{HoldsModule};
 ghost use Rattle.run_commands.specs.command_files.Outside.{Outside};
 ghost use Rattle.run_commands.specs.Ready.{GoLibrary, RunLibrary};
 ghost use Rattle.run_commands.specs.Run.{EndsRun};
+ghost use Rattle.run_commands.specs.Save.{EndsRunTo};
 ghost use Rattle.meant_files.specs.Programs.{HoldsImageOf, IsLibraryOf, IsProgramOf, Sources};
 
 use meant_files::{
     checked_law, crossed_law, files_law, frozen_law, images_law, meant_law, sources_law,
 };
 
-/// A run of a file or an image, over whichever library, and of a source, does as each program means whose units its library has.
+/// A run of a file or an image, over whichever library, also where its state is saved, and of a source, does as each program means whose
+/// units its library has.
 pub fn run_means_law()
     ensures run { (below : Shelf) (main : List ℕ) (room : Room) (steps : ℕ) (name : List ℕ) (old new : Outside) (ports_old ports_new : List PortView) (status : ℕ)
         → EndsRun (RunLibrary below main) room steps name old new ports_old ports_new status
+        → RunMeans (RunLibrary below main) room steps name old new ports_old ports_new status }
+    ensures saving { (below : Shelf) (main : List ℕ) (snap : Option (List ℕ)) (room : Room) (steps : ℕ) (name : List ℕ) (old new : Outside) (ports_old ports_new : List PortView) (status : ℕ)
+        → EndsRunTo snap (RunLibrary below main) room steps name old new ports_old ports_new status
         → RunMeans (RunLibrary below main) room steps name old new ports_old ports_new status }
     ensures source { (level : ℕ) (room : Room) (steps : ℕ) (name : List ℕ) (old new : Outside) (ports_old ports_new : List PortView) (status : ℕ)
         → EndsRun (GoLibrary level) room steps name old new ports_old ports_new status

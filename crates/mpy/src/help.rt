@@ -43,10 +43,12 @@ example: mpy go examples/loop.py -O 1 --steps 1000
   mpy run board.img -m main     run a module of an image
 ",
         text: "usage: mpy run FILE [-m NAME] [--base IMAGE] [--cells N] [--bytes N] [--steps N]
+               [--save SNAP]
 
 Verifies and runs the file FILE with the files of the modules that it imports,
 from the folder of FILE; or a module of the image FILE, which has all its
-modules. No file is written. Port 0 is as that of `mpy go`.
+modules. Port 0 is as that of `mpy go`. No file is written but SNAP, where the
+run takes all its steps.
 
   -m NAME       the module of an image that is run (main)
   --base IMAGE  the image over which the image FILE was frozen
@@ -54,6 +56,7 @@ modules. No file is written. Port 0 is as that of `mpy go`.
   --bytes N     room of its texts in bytes, at most 16,777,216 (262,144)
   --steps N     how many steps it may take, at most 1,000,000,000,000
                 (10,000,000)
+  --save SNAP   the file that gets its state as bytes where it takes them all
 
 example: mpy run examples/sensor.mpy --cells 4000
 ",
@@ -200,7 +203,7 @@ status  0 done                     7 a read failed
         3 a source is refused     10 a file or main module is absent
         4 a file is refused       11 merge, manifest, image, plan or library
         5 all steps were taken    12 a file is no translation of the source
-        6 the room was too small
+        6 the room was too small  13 the state of a run is too big
 docs/MESSAGES.md has each line that is said, docs/LANGUAGE.md the language.
 ";
 

@@ -7,7 +7,7 @@ use Rattle.manifest_files.specs.declared.frozen_fault.FrozenFault.TheVariants as
 use Rattle.mpy_endings.specs.declared.ending.BoardFault.TheVariants as boards
 use Rattle.mpy_endings.specs.declared.ending.Ending.{Ending}
 use Rattle.mpy_endings.specs.declared.ending.Ending.TheVariants.{Done, Unaccepted, Unread, Unverified, Unmerged, Unopened, Unfrozen, Unboarded, Different, Stopped, ReadFault, WriteFault, Unwritten, NoMemory, Absent}
-use Rattle.mpy_endings.specs.declared.ending.Stop.TheVariants.{Past, LibraryFault, LibraryUnaccepted, Raised, Memory, Steps}
+use Rattle.mpy_endings.specs.declared.ending.Stop.TheVariants.{Past, LibraryFault, LibraryUnaccepted, Raised, Memory, Steps, Unsaved}
 use Rattle.mpy_endings.specs.Ending.{IsRunStatus, is_folder_fault, is_out_fault, status_of}
 
 pub not_run : (n : ℕ) → (n ≡ 0 → ⊥) → (n ≡ 1 → ⊥) → (n ≡ 5 → ⊥) → (n ≡ 6 → ⊥) → IsRunStatus n → ⊥
@@ -43,6 +43,9 @@ eleven s = not_run 11 (λ e. absurd cc) (λ e. absurd cc) (λ e. absurd cc) (λ 
 twelve : IsRunStatus 12 → ⊥
 twelve s = not_run 12 (λ e. absurd cc) (λ e. absurd cc) (λ e. absurd cc) (λ e. absurd cc) s
 
+thirteen : IsRunStatus 13 → ⊥
+thirteen s = not_run 13 (λ e. absurd cc) (λ e. absurd cc) (λ e. absurd cc) (λ e. absurd cc) s
+
 -- such an ending is that of a run which was made
 pub run_ended : (ending : Ending) → IsRunStatus (status_of ending)
     → (ending ≡ Done) ⊎ (ending ≡ Stopped Raised) ⊎ (ending ≡ Stopped Memory) ⊎ ((count : ℕ) × (ending ≡ Stopped (Steps count)))
@@ -68,6 +71,7 @@ run_ended (Stopped (LibraryUnaccepted source)) s = absurd (three s)
 run_ended (Stopped Raised) s = inr (inl refl)
 run_ended (Stopped Memory) s = inr (inr (inl refl))
 run_ended (Stopped (Steps count)) s = inr (inr (inr (count, refl)))
+run_ended (Stopped Unsaved) s = absurd (thirteen s)
 run_ended ReadFault s = absurd (seven s)
 run_ended WriteFault s = absurd (not_eight s)
 run_ended Unwritten s = absurd (not_eight s)
@@ -83,6 +87,43 @@ none_run P done raised memory steps ending h s = elim (run_ended ending s) [
   | inr (inr (inl e)) ↦ memory (subst P e h)
   | inr (inr (inr e)) ↦ steps e.0 (subst P e.1 h)
 ]
+
+pub two_unsaved : (status : ℕ) → status ≡ 2 → status ≡ 13 → ⊥
+two_unsaved status e s = absurd cc
+
+-- such an ending is that of a run whose state has no snapshot
+pub unsaved_ended : (ending : Ending) → status_of ending ≡ 13 → ending ≡ Stopped Unsaved
+unsaved_ended Done s = absurd cc
+unsaved_ended (Unaccepted fault) s = absurd cc
+unsaved_ended (Unread fault) s = absurd cc
+unsaved_ended (Unverified fault) s = absurd cc
+unsaved_ended (Unmerged fault) s = absurd cc
+unsaved_ended (Unopened (mains.Image fault)) s = absurd cc
+unsaved_ended (Unopened (mains.NoMain name)) s = absurd cc
+unsaved_ended (Unfrozen (frozen.Sources (sources.Manifest fault))) s = absurd cc
+unsaved_ended (Unfrozen (frozen.Sources (sources.Absent name))) s = absurd cc
+unsaved_ended (Unfrozen (frozen.Sources (sources.Unaccepted name fault))) s = absurd cc
+unsaved_ended (Unfrozen (frozen.Sources (sources.Unread name))) s = absurd cc
+unsaved_ended (Unfrozen (frozen.Image fault)) s = absurd cc
+unsaved_ended (Unboarded (boards.Plan fault)) s = absurd cc
+unsaved_ended (Unboarded (boards.NoModule name)) s = absurd cc
+unsaved_ended (Unboarded (boards.Unwritten task)) s = absurd cc
+unsaved_ended (Different difference) s = absurd cc
+unsaved_ended (Stopped (Past limit)) s = absurd cc
+unsaved_ended (Stopped (LibraryFault path)) s = absurd cc
+unsaved_ended (Stopped (LibraryUnaccepted source)) s = absurd cc
+unsaved_ended (Stopped Raised) s = absurd cc
+unsaved_ended (Stopped Memory) s = absurd cc
+unsaved_ended (Stopped (Steps count)) s = absurd cc
+unsaved_ended (Stopped Unsaved) s = refl
+unsaved_ended ReadFault s = absurd cc
+unsaved_ended WriteFault s = absurd cc
+unsaved_ended Unwritten s = absurd cc
+unsaved_ended NoMemory s = absurd cc
+unsaved_ended Absent s = absurd cc
+
+pub none_unsaved : (P : Ending → Type 0) → (P (Stopped Unsaved) → ⊥) → (ending : Ending) → P ending → status_of ending ≡ 13 → ⊥
+none_unsaved P unsaved ending h s = unsaved (subst P (unsaved_ended ending s) h)
 
 -- counts of faults
 -- ================
@@ -109,6 +150,7 @@ quiet_folder (Stopped (LibraryUnaccepted source)) a b = refl
 quiet_folder (Stopped Raised) a b = refl
 quiet_folder (Stopped Memory) a b = refl
 quiet_folder (Stopped (Steps count)) a b = refl
+quiet_folder (Stopped Unsaved) a b = refl
 quiet_folder ReadFault a b = absurd (a refl)
 quiet_folder WriteFault a b = refl
 quiet_folder Unwritten a b = absurd (b refl)

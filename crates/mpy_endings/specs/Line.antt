@@ -35,7 +35,7 @@ use Rattle.mpy_endings.specs.declared.ending.Difference.{Difference}
 use Rattle.mpy_endings.specs.declared.ending.BoardFault.{BoardFault}
 use Rattle.mpy_endings.specs.declared.ending.BoardFault.TheVariants as boards
 use Rattle.mpy_endings.specs.declared.ending.Stop.{Stop}
-use Rattle.mpy_endings.specs.declared.ending.Stop.TheVariants.{Past, LibraryFault, LibraryUnaccepted, Raised, Memory, Steps}
+use Rattle.mpy_endings.specs.declared.ending.Stop.TheVariants.{Past, LibraryFault, LibraryUnaccepted, Raised, Memory, Steps, Unsaved}
 use Rattle.image_runs.specs.library_files.declared.limit.Limit.TheVariants as limits
 
 -- a word that a fault names, left out where it is empty
@@ -222,6 +222,7 @@ stop_line (LibraryUnaccepted source) = source_line source.path source.fault
 stop_line Raised = []
 stop_line Memory = []
 stop_line (Steps count) = codes "mpy: step limit " ++ decimal count ++ codes "\n"
+stop_line Unsaved = codes "mpy: snapshot TooBig\n"
 
 -- what is said of a command on the file of this name
 abbrev pub line_of : List ℕ → Ending → List ℕ

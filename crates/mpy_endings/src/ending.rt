@@ -29,6 +29,8 @@ pub enum Stop {
     Memory,
     /// The run took all its steps, whose number this is, and didn't end.
     Steps(u64),
+    /// It took all its steps and didn't end, and its state has no snapshot.
+    Unsaved,
 }
 
 impl Stop {
@@ -42,6 +44,7 @@ impl Stop {
             Stop::Memory => 6,
             Stop::LibraryFault(_) => 7,
             Stop::Past(_) => 11,
+            Stop::Unsaved => 13,
         }
     }
 }

@@ -228,6 +228,7 @@ fn say_stop<E: Sink>(say: &mut E, stop: &Stop) -> Result<(), Failed>
         Stop::LibraryUnaccepted(source) => say_fault(say, source.path.bytes(), &source.fault),
         Stop::Raised | Stop::Memory => Ok(()),
         Stop::Steps(count) => say_steps(say, *count),
+        Stop::Unsaved => put(say, b"mpy: snapshot TooBig\n"),
     }
 }
 

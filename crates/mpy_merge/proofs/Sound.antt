@@ -21,7 +21,6 @@ use Rattle.bc_scheme.specs.bc_ops.Code.{IsEncodable, TakesNumber, TakesOffset}
 use Rattle.bc_scheme.specs.bc_ops.Listing.{Piece, IsPiece, joined, starts, item, items_at, IsListOf, Lists}
 use Rattle.bc_scheme.proofs.bc_ops_lemmas.Law.{encodable}
 use Rattle.bc_scheme.proofs.bc_ops_lemmas.Parts as parts
-use Rattle.bc_scheme.specs.bc_ops.Parting.{ended}
 use Rattle.bc_scheme.proofs.bc_ops_lemmas.Lists.{one_listing}
 use Rattle.mpy_writer.specs.bc_labels.Labels.{HasNoOffset, HasOffset}
 use Rattle.bc_verify.specs.bc_prelude.declared.prelude.Prelude.{Prelude}
@@ -119,12 +118,12 @@ offsets_within bytes xs offsets most l le =
 
 pub offsets_rise : (bytes : List ℕ) (xs : List listings.Item) (offsets : List ℕ) → Lists bytes xs offsets → IsStrictlyIncreasing offsets
 offsets_rise bytes xs offsets l =
-    parts.rises bytes offsets (ended 0 l.is_list.pieces) (record {
+    parts.rises bytes offsets (items_at [] 0 l.is_list.pieces) (record {
       pieces = l.is_list.pieces;
       spelled = l.is_list.spelled;
       bytes_are = l.is_list.bytes_are;
       offsets_are = l.offsets_are;
-      instrs_are = refl;
+      items_are = refl;
     })
 
 -- lines never fall

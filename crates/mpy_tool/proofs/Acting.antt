@@ -8,7 +8,7 @@ use Rattle.meant_commands.specs.source_files.Sources.{stored}
 use Rattle.mpy_words.specs.declared.order.Command.{Command}
 use Rattle.mpy_words.specs.declared.order.Command.TheVariants.{Go, Check, CheckAs, Dump, Cross, Merge, Freeze, Migrate, Run, Board, Stress}
 use Rattle.mpy_words.specs.declared.order.Order.{Order}
-use Rattle.mpy_words.specs.Words.{Outcome, order_of, first_name, second_name, source_name, main_name, file_names}
+use Rattle.mpy_words.specs.Words.{Outcome, order_of, first_name, second_name, source_name, main_name, file_names, saved_name}
 use Rattle.board_command.specs.board_files.Files.{KeepsOthers}
 use Rattle.board_command.specs.command_files.Outside.{Ends, EndsAt, Writes, WritesOf}
 use Rattle.board_command.proofs.command_files_lemmas.Others.{same_only}
@@ -19,9 +19,10 @@ use Rattle.meant_commands.specs.file_commands.Dump.{Dumps}
 use Rattle.meant_commands.specs.file_commands.Merge.{Merges}
 use Rattle.stress_command.specs.run_commands.Ready.{GoLibrary, RunLibrary}
 use Rattle.stress_command.specs.run_commands.Run.{EndsRun, room_of}
+use Rattle.stress_command.specs.run_commands.Save.{EndsRunTo}
 use Rattle.meant_commands.specs.GoMeant.{GoMeans}
 use Rattle.meant_commands.specs.Meant.{Libraries, RunMeans}
-use Rattle.meant_commands.proofs.Meaning.{MeantLaw, run_means}
+use Rattle.meant_commands.proofs.Meaning.{MeantLaw, run_to_means}
 use Rattle.meant_commands.specs.image_commands.Freeze.{Freezes}
 use Rattle.meant_commands.specs.image_commands.Migrate.{Migrates}
 use Rattle.board_command.specs.command_files.Images.{HoldsImage}
@@ -30,8 +31,8 @@ use Rattle.board_command.specs.Boards.{Boards}
 use Rattle.stress_command.specs.Stress.{EndsStress}
 use Rattle.mpy_tool.specs.Call.{Call, Orders, OrdersOne, OrdersTwo, Shows, ShowsPorts}
 use Rattle.mpy_tool.specs.Below.{Based, image_version}
-use Rattle.mpy_tool.specs.Doing.{Finishes, RunsBy, ActsBy, ObeysBy}
-use Rattle.mpy_tool.specs.Order.{ChangesBy, calls_ports, makes_source, runs_library}
+use Rattle.mpy_tool.specs.Doing.{Finishes, RunsOrSaves, ActsBy, ObeysBy}
+use Rattle.mpy_tool.specs.Order.{ChangesBy, ChangesSaved, calls_ports, makes_source, runs_library, save_by}
 use Rattle.mpy_tool.specs.Making.{StressMeans}
 use Rattle.mpy_tool.proofs.Stressing.{GoLaw, stress_means}
 use Rattle.mpy_tool.proofs.Ended.{checked, checked_as, dumped, crossed, merged, frozen, migrated, boarded}
@@ -43,18 +44,36 @@ pub same_others : (count : ℕ) (old new : Option FileOf) → new ≡ old → Ke
 same_others count None new e = tt
 same_others count (Some file) new e = (file, e, λ name apart. refl)
 
-pub same_changes : (words : List (List ℕ)) (command : Command) (old new : Option FileOf) → new ≡ old → ChangesBy words command old new
-same_changes words Go old new e = e
-same_changes words Check old new e = e
-same_changes words CheckAs old new e = e
-same_changes words Dump old new e = e
-same_changes words Cross old new e = same_only old new (second_name words) e
-same_changes words Merge old new e = same_only old new (first_name words) e
-same_changes words Freeze old new e = same_only old new (second_name words) e
-same_changes words Migrate old new e = same_only old new (second_name words) e
-same_changes words Run old new e = e
-same_changes words Board old new e = same_others MAX_TASKS old new e
-same_changes words Stress old new e = e
+same_saved : (snap : Option (List ℕ)) (old new : Option FileOf) → new ≡ old → ChangesSaved snap old new
+same_saved None old new e = e
+same_saved (Some snap) old new e = same_only old new snap e
+
+pub same_changes : (words : List (List ℕ)) (save : Option ℕ) (command : Command) (old new : Option FileOf) → new ≡ old → ChangesBy words save command old new
+same_changes words save Go old new e = e
+same_changes words save Check old new e = e
+same_changes words save CheckAs old new e = e
+same_changes words save Dump old new e = e
+same_changes words save Cross old new e = same_only old new (second_name words) e
+same_changes words save Merge old new e = same_only old new (first_name words) e
+same_changes words save Freeze old new e = same_only old new (second_name words) e
+same_changes words save Migrate old new e = same_only old new (second_name words) e
+same_changes words save Run old new e = same_saved (saved_name words save) old new e
+same_changes words save Board old new e = same_others MAX_TASKS old new e
+same_changes words save Stress old new e = e
+
+-- what a run changes
+pub run_changes : (words : List (List ℕ)) (save : Option ℕ) (command : Command) (old new : Option FileOf) → runs_library command ≡ true → ChangesSaved (saved_name words (save_by command save)) old new → ChangesBy words save command old new
+run_changes words save Go old new e h = h
+run_changes words save Check old new e h = absurd cc
+run_changes words save CheckAs old new e h = absurd cc
+run_changes words save Dump old new e h = absurd cc
+run_changes words save Cross old new e h = absurd cc
+run_changes words save Merge old new e h = absurd cc
+run_changes words save Freeze old new e h = absurd cc
+run_changes words save Migrate old new e h = absurd cc
+run_changes words save Run old new e h = h
+run_changes words save Board old new e h = absurd cc
+run_changes words save Stress old new e h = absurd cc
 
 -- by the command
 -- ==============
@@ -64,7 +83,7 @@ pub quiet : (command : Command) → runs_library command ≡ false → makes_sou
 quiet command r m = rw r m
 
 module _ (order : Order) (call : Call) where
-  pub acts_run : (below : Shelf) (command : Command) → runs_library command ≡ true → RunsBy order call below command → ActsBy order call below command
+  pub acts_run : (below : Shelf) (command : Command) → runs_library command ≡ true → RunsOrSaves order call below command → ActsBy order call below command
   acts_run below Go e h = h
   acts_run below Check e h = absurd cc
   acts_run below CheckAs e h = absurd cc
@@ -148,7 +167,7 @@ module _ (order : Order) (call : Call) where
   ordered command Went is h = subst (λ (r : Outcome). IfOk r (λ o. o.command ≡ command → Went o)) is h
 
   abbrev Ran : Libraries → Type 0
-  Ran Comes = ShowsPorts call (EndsRun Comes (room_of order) order.steps (first_name call.words))
+  Ran Comes = ShowsPorts call (EndsRunTo (saved_name call.words order.save) Comes (room_of order) order.steps (first_name call.words))
 
   abbrev Means : Libraries → Type 0
   Means Comes = ShowsPorts call (RunMeans Comes (room_of order) order.steps (first_name call.words))
@@ -210,10 +229,10 @@ module _ (order : Order) (call : Call) where
 
   pub run_ordered : Ok order ≡ order_of call.words → Obeyed order.command
       → OrdersOne call Run (λ o file. Based call o.base (λ below.
-      ShowsPorts call (EndsRun (RunLibrary below (main_name call.words o.main_name)) (room_of o) o.steps file)))
+      ShowsPorts call (EndsRunTo (saved_name call.words o.save) (RunLibrary below (main_name call.words o.main_name)) (room_of o) o.steps file)))
   run_ordered is h =
       ordered Run (λ o. Based call o.base (λ below.
-      ShowsPorts call (EndsRun (RunLibrary below (main_name call.words o.main_name)) (room_of o) o.steps (first_name call.words)))) is
+      ShowsPorts call (EndsRunTo (saved_name call.words o.save) (RunLibrary below (main_name call.words o.main_name)) (room_of o) o.steps (first_name call.words)))) is
       (λ e. as_command Run e h)
 
   pub board_ordered : Ok order ≡ order_of call.words → Obeyed order.command
@@ -246,7 +265,7 @@ module _ (order : Order) (call : Call) where
       let Comes = λ (below : Shelf). RunLibrary below (main_name call.words order.main_name) in
       ordered Run (λ o. Based call o.base (λ below. ShowsPorts call (RunMeans (RunLibrary below (main_name call.words o.main_name)) (room_of o) o.steps file))) is
       (λ e. based_map order.base (λ below. Ran (Comes below)) (λ below. Means (Comes below))
-      (λ below. run_means law (Comes below) (room_of order) order.steps file call.old call.new call.ports_old call.ports_new call.status) (as_command Run e h))
+      (λ below. run_to_means law (saved_name call.words order.save) (Comes below) (room_of order) order.steps file call.old call.new call.ports_old call.ports_new call.status) (as_command Run e h))
 
   pub stress_means_ordered : GoLaw → Ok order ≡ order_of call.words → Obeyed order.command
       → Orders call Stress (λ o. ShowsPorts call (StressMeans o.seed o.count (room_of o) o.steps))

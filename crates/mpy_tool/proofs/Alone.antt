@@ -82,9 +82,9 @@ module _ (order : Order) (words : List (List ℕ)) (below : Shelf) (command : Co
 -- what was changed
 -- ================
 
-module _ (words : List (List ℕ)) (command : Command) (old new : Option FileOf) where
+module _ (words : List (List ℕ)) (save : Option ℕ) (command : Command) (old new : Option FileOf) where
   abbrev ChangedSo : Command → Type 0
-  ChangedSo c = ChangesBy words c old new
+  ChangedSo c = ChangesBy words save c old new
 
   pub cross_changed : (level : ℕ) (name kept written : List ℕ) (result : Ending) → command ≡ Cross → written ≡ second_name words → Crosses level name kept written old new result → ChangedSo command
   cross_changed level name kept written result e w h = subst ChangedSo (sym e) (subst (ChangesOnly old new) w (crosses_only level name kept written old new result h))

@@ -1,15 +1,17 @@
 -- Calls that failed are told by the status.
-use Rattle.std.proofs.Common.{ℕ, Option, Some, None, inl, inr}
+use Rattle.std.proofs.Common.{ℕ, List, Option, Some, None, inl, inr}
 use Rattle.image_open.specs.image_grammar.bc_library.Shelf.{Shelf, no_entries}
 use Rattle.mpy_words.specs.declared.order.Command.{Command}
 use Rattle.mpy_words.specs.declared.order.Command.TheVariants.{Go, Check, CheckAs, Dump, Cross, Merge, Freeze, Migrate, Run, Board, Stress}
 use Rattle.mpy_words.specs.declared.order.Order.{Order}
+use Rattle.mpy_words.specs.Words.{first_name, saved_name}
 use Rattle.stress_command.specs.run_commands.Run.{room_of}
+use Rattle.stress_command.specs.run_commands.Save.{EndsRunTo}
 use Rattle.mpy_endings.proofs.Statuses.{folder_stays, out_stays}
 use Rattle.stress_command.specs.Stress.{EndsStress}
 use Rattle.mpy_tool.specs.Below.{Based}
 use Rattle.mpy_tool.specs.Call.{Call, LeavesCounts, ShowsPorts}
-use Rattle.mpy_tool.specs.Doing.{ActsBy, Finishes, RunsBy, ObeysBy}
+use Rattle.mpy_tool.specs.Doing.{ActsBy, Finishes, LibraryBy, RunsBy, ObeysBy}
 use Rattle.mpy_tool.specs.Order.{base_by}
 
 module _ (order : Order) (call : Call) (below : Shelf) where
@@ -21,6 +23,16 @@ module _ (order : Order) (call : Call) (below : Shelf) where
 
   run_stays : (command : Command) → RunsBy order call below command → LeavesCounts call
   run_stays command h unread unwritten = (
+    folder_stays h.ending call.status h.status_is unread unwritten call.old.folder_faults call.new.folder_faults h.folder_counts,
+    out_stays h.ending call.status h.status_is unread unwritten call.old.out_faults call.new.out_faults h.out_counts,
+  )
+
+  save_stays : (snap : Option (List ℕ)) → ShowsPorts call (EndsRunTo snap (LibraryBy order call.words below Run) (room_of order) order.steps (first_name call.words)) → LeavesCounts call
+  save_stays None h unread unwritten = (
+    folder_stays h.ending call.status h.status_is unread unwritten call.old.folder_faults call.new.folder_faults h.folder_counts,
+    out_stays h.ending call.status h.status_is unread unwritten call.old.out_faults call.new.out_faults h.out_counts,
+  )
+  save_stays (Some snap) h unread unwritten = (
     folder_stays h.ending call.status h.status_is unread unwritten call.old.folder_faults call.new.folder_faults h.folder_counts,
     out_stays h.ending call.status h.status_is unread unwritten call.old.out_faults call.new.out_faults h.out_counts,
   )
@@ -45,7 +57,7 @@ module _ (order : Order) (call : Call) (below : Shelf) where
   acts_stay Merge h = finish_stays Merge h
   acts_stay Freeze h = finish_stays Freeze h
   acts_stay Migrate h = finish_stays Migrate h
-  acts_stay Run h = run_stays Run h
+  acts_stay Run h = save_stays (saved_name call.words order.save) h
   acts_stay Board h = finish_stays Board h
   acts_stay Stress h = stress_stays h
 

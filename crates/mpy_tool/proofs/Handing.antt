@@ -11,9 +11,9 @@ use Rattle.mpy_words.specs.Words.{first_name, second_name}
 use Rattle.mpy_endings.specs.declared.ending.Ending.{Ending}
 use Rattle.mpy_endings.specs.declared.ending.Ending.TheVariants.{Done, Stopped, WriteFault}
 use Rattle.mpy_endings.specs.declared.ending.Stop.{Stop}
-use Rattle.mpy_endings.specs.declared.ending.Stop.TheVariants.{Raised, Memory, Steps}
+use Rattle.mpy_endings.specs.declared.ending.Stop.TheVariants.{Raised, Memory, Steps, Unsaved}
 use Rattle.mpy_endings.specs.Ending.{IsRunStatus, status_of}
-use Rattle.mpy_endings.proofs.Statuses.{run_ended}
+use Rattle.mpy_endings.proofs.Statuses.{none_unsaved, run_ended}
 use Rattle.meant_commands.specs.file_commands.Check.{verified_line}
 use Rattle.meant_commands.specs.file_commands.CheckAs.{translation_line}
 use Rattle.meant_commands.proofs.file_commands_lemmas.HandedOn.{checks_cut, checks_as_cut, dumps_cut}
@@ -74,3 +74,7 @@ module _ (order : Order) (words : List (List ℕ)) (below : Shelf) (old new : Op
         | inr (inr (inl e)) ↦ absurd (not_stopped command Memory (subst At e p))
         | inr (inr (inr e)) ↦ absurd (not_stopped command (Steps e.0) (subst At e.1 p))
       ]
+
+  -- none of these saves a state
+  pub not_unsaved : (command : Command) (ending : Ending) → DoesBy order words below command old new before behind place ending → status_of ending ≡ 13 → ⊥
+  not_unsaved command ending p s = none_unsaved (λ (e : Ending). DoesBy order words below command old new before behind place e) (λ q. not_stopped command Unsaved q) ending p s

@@ -6,3 +6,4 @@ pub mod Alone
 pub mod Stressing
 pub mod Acting
 pub mod Counting
+pub mod Saving

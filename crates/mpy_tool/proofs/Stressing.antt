@@ -1,15 +1,16 @@
 -- What the run of a made source says of its program, from how it ended.
-use Rattle.std.proofs.Common.{◌≡◌, ◌⊎◌, ℕ, List, subst, inl, inr}
+use Rattle.std.proofs.Common.{◌≡◌, ◌⊎◌, ℕ, List, subst, sym, ◌∙◌, inl, inr}
 use Rattle.mpy_base.specs.declared.room.Room.{Room}
 use Rattle.mpy_io.specs.Ports.{PortView}
 use Rattle.mpy_endings.specs.image_runs.declared.fault.MainFault.TheVariants as mains
 use Rattle.mpy_endings.specs.declared.ending.Ending.{Ending}
 use Rattle.mpy_endings.specs.declared.ending.Ending.TheVariants.{Done, Unaccepted, Unread, Unverified, Unmerged, Unopened, Unfrozen, Unboarded, Different, Stopped, ReadFault, WriteFault, Unwritten, NoMemory, Absent}
-use Rattle.mpy_endings.specs.declared.ending.Stop.TheVariants.{Past, LibraryFault, LibraryUnaccepted, Raised, Memory, Steps}
+use Rattle.mpy_endings.specs.declared.ending.Stop.TheVariants.{Past, LibraryFault, LibraryUnaccepted, Raised, Memory, Steps, Unsaved}
 use Rattle.mpy_endings.specs.Ending.{status_of, IsRunStatus}
+use Rattle.mpy_endings.proofs.Statuses.{none_unsaved}
 use Rattle.board_command.specs.command_files.Outside.{Outside}
 use Rattle.stress_command.specs.run_commands.Ready.{GoLibrary}
-use Rattle.stress_command.specs.run_commands.Run.{EndsRun, IsUnloaded}
+use Rattle.stress_command.specs.run_commands.Run.{EndsRun, IsUnloaded, Runs, sight_in}
 use Rattle.meant_commands.specs.GoMeant.{GoMeans}
 use Rattle.stress_command.specs.Stress.{EndsStress, Ran, beside, stress_name}
 use Rattle.mpy_tool.specs.Making.{MeansMade, StressMeans}
@@ -46,11 +47,25 @@ unloaded_not (Stopped (LibraryUnaccepted source)) u h = not_running 3 (λ e. abs
 unloaded_not (Stopped Raised) u h = absurd u
 unloaded_not (Stopped Memory) u h = absurd u
 unloaded_not (Stopped (Steps count)) u h = absurd u
+unloaded_not (Stopped Unsaved) u h = absurd u
 unloaded_not ReadFault u h = not_running 7 (λ e. absurd cc) (λ e. absurd cc) (λ e. absurd cc) (λ e. absurd cc) (λ e. absurd cc) h
 unloaded_not WriteFault u h = absurd u
 unloaded_not Unwritten u h = absurd u
 unloaded_not NoMemory u h = not_running 9 (λ e. absurd cc) (λ e. absurd cc) (λ e. absurd cc) (λ e. absurd cc) (λ e. absurd cc) h
 unloaded_not Absent u h = not_running 10 (λ e. absurd cc) (λ e. absurd cc) (λ e. absurd cc) (λ e. absurd cc) (λ e. absurd cc) h
+
+-- a made source saves no state
+never_unsaved : (room : Room) (steps : ℕ) (name : List ℕ) (old new : Outside) (ports_old ports_new : List PortView) (status : ℕ) → EndsRun (GoLibrary 0) room steps name old new ports_old ports_new status → status ≡ 13 → ⊥
+never_unsaved room steps name old new ports_old ports_new status h s =
+    none_unsaved (Runs (GoLibrary 0 old.files name) room steps (sight_in old ports_old) (sight_in new ports_new) h.said) (λ p. p) h.ending h.went (sym h.status_is ∙ s)
+
+eight_unsaved : (status : ℕ) → status ≡ 8 → status ≡ 13 → ⊥
+eight_unsaved status a b = absurd cc
+
+pub stress_unsaved : (seed count : ℕ) (room : Room) (steps : ℕ) (old new : Outside) (ports_old ports_new : List PortView) (status : ℕ) → EndsStress seed count room steps old new ports_old ports_new status → status ≡ 13 → ⊥
+stress_unsaved seed count room steps old new ports_old ports_new status (inl h) s = never_unsaved room steps stress_name (beside seed count old old.out) new ports_old ports_new status h.goes s
+stress_unsaved seed count room steps old new ports_old ports_new status (inr (inl h)) s = eight_unsaved status h.status_is s
+stress_unsaved seed count room steps old new ports_old ports_new status (inr (inr h)) s = never_unsaved room steps stress_name (beside seed count old h.printed) new ports_old ports_new status h.goes s
 
 -- what the law of runs of sources says
 abbrev pub GoLaw : Type 0

@@ -6,7 +6,7 @@ use Rattle.image_open.specs.image_grammar.bc_library.Shelf.{Shelf}
 use Rattle.mpy_words.specs.declared.order.Command.{Command}
 use Rattle.mpy_words.specs.declared.order.Command.TheVariants.{Go, Check, CheckAs, Dump, Cross, Merge, Freeze, Migrate, Run, Board, Stress}
 use Rattle.mpy_words.specs.declared.order.Order.{Order}
-use Rattle.mpy_words.specs.Words.{first_name, second_name, source_name, main_name, file_names}
+use Rattle.mpy_words.specs.Words.{first_name, second_name, source_name, main_name, file_names, saved_name}
 use Rattle.meant_commands.specs.source_files.Sources.{stored}
 use Rattle.mpy_endings.specs.declared.ending.Ending.{Ending}
 use Rattle.mpy_endings.specs.Line.{place_in}
@@ -18,6 +18,7 @@ use Rattle.meant_commands.specs.file_commands.Dump.{Dumps}
 use Rattle.meant_commands.specs.file_commands.Merge.{Merges}
 use Rattle.stress_command.specs.run_commands.Ready.{GoLibrary, RunLibrary}
 use Rattle.stress_command.specs.run_commands.Run.{EndsRun, room_of}
+use Rattle.stress_command.specs.run_commands.Save.{EndsRunTo}
 use Rattle.meant_commands.specs.Meant.{Libraries}
 use Rattle.meant_commands.specs.image_commands.Freeze.{Freezes}
 use Rattle.meant_commands.specs.image_commands.Migrate.{Migrates}
@@ -25,7 +26,7 @@ use Rattle.board_command.specs.Boards.{Boards}
 use Rattle.stress_command.specs.Stress.{EndsStress}
 use Rattle.mpy_tool.specs.Call.{Call, Shows, ShowsPorts}
 use Rattle.mpy_tool.specs.Below.{Based, image_version}
-use Rattle.mpy_tool.specs.Order.{base_by}
+use Rattle.mpy_tool.specs.Order.{base_by, save_by}
 
 module _ (order : Order) (words : List (List ℕ)) (below : Shelf) where
   -- What a command that runs nothing did, with what in the folder and on the output before and behind it, and how it ended, with the
@@ -73,6 +74,11 @@ module _ (order : Order) (call : Call) (below : Shelf) where
   abbrev pub RunsBy : Command → Type 0
   RunsBy command = ShowsPorts call (EndsRun (LibraryBy order call.words below command) (room_of order) order.steps (first_name call.words))
 
+  -- how one ended whose state is saved, if that is ordered
+  abbrev pub RunsOrSaves : Command → Type 0
+  RunsOrSaves command =
+      ShowsPorts call (EndsRunTo (saved_name call.words (save_by command order.save)) (LibraryBy order call.words below command) (room_of order) order.steps (first_name call.words))
+
   -- how each command ended
   abbrev pub ActsBy : Command → Type 0
   ActsBy Go = RunsBy Go
@@ -83,7 +89,7 @@ module _ (order : Order) (call : Call) (below : Shelf) where
   ActsBy Merge = Finishes Merge
   ActsBy Freeze = Finishes Freeze
   ActsBy Migrate = Finishes Migrate
-  ActsBy Run = RunsBy Run
+  ActsBy Run = RunsOrSaves Run
   ActsBy Board = Finishes Board
   ActsBy Stress = ShowsPorts call (EndsStress order.seed order.count (room_of order) order.steps)
 

@@ -1,12 +1,12 @@
 -- What orders write and call, and which of them stand on a base.
-use Rattle.std.specs.Prelude.{◌≡◌, ◌||◌, ℕ, List, Bool, true, false, Option, None, Ok, Err}
+use Rattle.std.specs.Prelude.{◌≡◌, ◌||◌, ℕ, List, Bool, true, false, Option, None, Some, Ok, Err}
 use Rattle.std.specs.Io.KnownBytes.{Keeps}
 use Rattle.mpy_base.specs.declared.limits.TheConstants.{MAX_TASKS}
 use Rattle.mpy_io.specs.Files.{FileOf}
 use Rattle.mpy_words.specs.declared.order.Command.{Command}
 use Rattle.mpy_words.specs.declared.order.Command.TheVariants.{Go, Check, CheckAs, Dump, Cross, Merge, Freeze, Migrate, Run, Board, Stress}
 use Rattle.mpy_words.specs.declared.order.WordFault.{WordFault}
-use Rattle.mpy_words.specs.Words.{Outcome, first_name, second_name}
+use Rattle.mpy_words.specs.Words.{Outcome, first_name, saved_name, second_name}
 use Rattle.mpy_endings.specs.Line.{Says, words_line}
 use Rattle.board_command.specs.board_files.Files.{KeepsOthers}
 use Rattle.board_command.specs.command_files.Folder.{ChangesOnly}
@@ -20,24 +20,29 @@ pub record RefusesWords (words : List (List ℕ)) (fault : WordFault) (old new :
   pub writes : new.out_faults ≡ old.out_faults
   pub says : Says old.say new.say old.say_faults new.say_faults (words_line words fault)
 
--- no file changed but those that the command writes: OUT, or the files of a board's tasks
-abbrev pub ChangesBy : List (List ℕ) → Command → (old new : Option FileOf) → Type 0
-ChangesBy words Go old new = new ≡ old
-ChangesBy words Check old new = new ≡ old
-ChangesBy words CheckAs old new = new ≡ old
-ChangesBy words Dump old new = new ≡ old
-ChangesBy words Cross old new = ChangesOnly old new (second_name words)
-ChangesBy words Merge old new = ChangesOnly old new (first_name words)
-ChangesBy words Freeze old new = ChangesOnly old new (second_name words)
-ChangesBy words Migrate old new = ChangesOnly old new (second_name words)
-ChangesBy words Run old new = new ≡ old
-ChangesBy words Board old new = KeepsOthers MAX_TASKS old new
-ChangesBy words Stress old new = new ≡ old
+-- no file changed but the one that a run saves to, if one is ordered
+abbrev pub ChangesSaved : Option (List ℕ) → (old new : Option FileOf) → Type 0
+ChangesSaved None old new = new ≡ old
+ChangesSaved (Some snap) old new = ChangesOnly old new snap
+
+-- no file changed but those that the command writes: OUT, the one that a run saves to, or the files of a board's tasks
+abbrev pub ChangesBy : List (List ℕ) → (save : Option ℕ) → Command → (old new : Option FileOf) → Type 0
+ChangesBy words save Go old new = new ≡ old
+ChangesBy words save Check old new = new ≡ old
+ChangesBy words save CheckAs old new = new ≡ old
+ChangesBy words save Dump old new = new ≡ old
+ChangesBy words save Cross old new = ChangesOnly old new (second_name words)
+ChangesBy words save Merge old new = ChangesOnly old new (first_name words)
+ChangesBy words save Freeze old new = ChangesOnly old new (second_name words)
+ChangesBy words save Migrate old new = ChangesOnly old new (second_name words)
+ChangesBy words save Run old new = ChangesSaved (saved_name words save) old new
+ChangesBy words save Board old new = KeepsOthers MAX_TASKS old new
+ChangesBy words save Stress old new = new ≡ old
 
 -- no file changed but those that the ordered command writes; words of no order write none
 abbrev pub ChangesIn : List (List ℕ) → Outcome → (old new : Option FileOf) → Type 0
 ChangesIn words (Err fault) old new = new ≡ old
-ChangesIn words (Ok order) old new = ChangesBy words order.command old new
+ChangesIn words (Ok order) old new = ChangesBy words order.save order.command old new
 
 -- whether a command runs the library of a file or a source of the folder
 abbrev pub runs_library : Command → Bool
@@ -89,6 +94,20 @@ stands_alone Migrate = true
 stands_alone Run = false
 stands_alone Board = false
 stands_alone Stress = false
+
+-- the place of the name of the file that a run saves to, of a command that may save
+abbrev pub save_by : Command → Option ℕ → Option ℕ
+save_by Go save = None
+save_by Check save = None
+save_by CheckAs save = None
+save_by Dump save = None
+save_by Cross save = None
+save_by Merge save = None
+save_by Freeze save = None
+save_by Migrate save = None
+save_by Run save = save
+save_by Board save = None
+save_by Stress save = None
 
 -- the place of the base's name, of a command that may stand on a base
 abbrev pub base_by : Command → Option ℕ → Option ℕ

@@ -89,7 +89,7 @@ fn ran_alone<F: Folder, S: Sink>(
         (F.files folder.old) (F.files folder.new) (S.told out.old) (S.told out.new) result.place result.ending }
     ensures folder_counts { Counts (F.count folder.old) (F.count folder.new) (is_folder_fault result.ending) }
     ensures out_counts { Counts (S.count out.old) (S.count out.new) (is_out_fault result.ending) }
-    ensures files { ChangesBy (texts words.now) order.command (F.files folder.old) (F.files folder.new) }
+    ensures files { ChangesBy (texts words.now) order.save order.command (F.files folder.old) (F.files folder.new) }
 {
     let name = word_at(words, 1);
     match order.command {
@@ -127,7 +127,7 @@ fn ran<F: Folder, S: Sink>(
         (F.files folder.old) (F.files folder.new) (S.told out.old) (S.told out.new) result.place result.ending }
     ensures folder_counts { Counts (F.count folder.old) (F.count folder.new) (is_folder_fault result.ending) }
     ensures out_counts { Counts (S.count out.old) (S.count out.new) (is_out_fault result.ending) }
-    ensures files { ChangesBy (texts words.now) order.command (F.files folder.old) (F.files folder.new) }
+    ensures files { ChangesBy (texts words.now) order.save order.command (F.files folder.old) (F.files folder.new) }
 {
     let name = word_at(words, 1);
     match order.command {
@@ -166,7 +166,7 @@ fn done<F: Folder, S: Sink>(
     ensures flushed { result.ending ≡ Done → S.held out.new ≡ [] }
     ensures folder_counts { Counts (F.count folder.old) (F.count folder.new) (is_folder_fault result.ending) }
     ensures out_counts { Counts (S.count out.old) (S.count out.new) (is_out_fault result.ending) }
-    ensures files { ChangesBy (texts words.now) order.command (F.files folder.old) (F.files folder.new) }
+    ensures files { ChangesBy (texts words.now) order.save order.command (F.files folder.old) (F.files folder.new) }
 {
     let Ended { ending, place } = ran(order, alloc, words, below, folder, out);
     match ending {
@@ -199,7 +199,8 @@ pub(crate) fn do_order<F: Folder, S: Sink, P: Port, E: Sink>(
         Finishes order call (library_below below) order.command }
     ensures ports { outside.new.ports ≡ outside.old.ports }
     ensures flushed { IsRunStatus result → S.held outside.new.out ≡ [] }
-    ensures files { ChangesBy (texts words.now) order.command (F.files outside.old.folder) (F.files outside.new.folder) }
+    ensures handed_on { result ≡ 13 → S.held outside.new.out ≡ [] }
+    ensures files { ChangesBy (texts words.now) order.save order.command (F.files outside.old.folder) (F.files outside.new.folder) }
 {
     let ended = done(
         order,

@@ -3,7 +3,7 @@
 ghost use Rattle.std.specs.Prelude.{◌≡◌, ◌≤◌, [], false, IfErr};
 ghost use Rattle.mpy_words.specs.declared.order.Command.TheVariants as commands;
 ghost use Rattle.mpy_words.specs.Given.{most_count};
-ghost use Rattle.mpy_words.specs.Words.{order_of, source_name, main_name, file_names};
+ghost use Rattle.mpy_words.specs.Words.{order_of, source_name, main_name, file_names, saved_name};
 ghost use Rattle.meant_commands.specs.source_files.Sources.{stored};
 ghost use Rattle.mpy_endings.specs.Ending.{IsRunStatus, status_of};
 ghost use Rattle.mpy_endings.specs.Line.{Says, line_of};
@@ -15,6 +15,7 @@ ghost use Rattle.meant_commands.specs.file_commands.Dump.{Dumps};
 ghost use Rattle.meant_commands.specs.file_commands.Merge.{Merges};
 ghost use Rattle.stress_command.specs.run_commands.Ready.{GoLibrary, RunLibrary};
 ghost use Rattle.stress_command.specs.run_commands.Run.{EndsRun, room_of};
+ghost use Rattle.stress_command.specs.run_commands.Save.{EndsRunTo};
 ghost use Rattle.meant_commands.specs.GoMeant.{GoMeans};
 ghost use Rattle.meant_commands.specs.Meant.{RunMeans};
 ghost use Rattle.meant_commands.specs.image_commands.Freeze.{Freezes};
@@ -92,6 +93,7 @@ fn make<F: Folder, S: Sink, P: Port, E: Sink>(
     ensures ended { let call = call_of F.Folder S.Sink P.Port E.Sink [] outside.old outside.new result in
         ShowsPorts call (EndsStress order.seed order.count (room_of order) order.steps) }
     ensures flushed { IsRunStatus result → S.held outside.new.out ≡ [] }
+    ensures handed_on { result ≡ 13 → S.held outside.new.out ≡ [] }
     ensures files { F.files outside.new.folder ≡ F.files outside.old.folder }
 {
     release(below);
@@ -126,7 +128,8 @@ fn act<F: Folder, S: Sink, P: Port, E: Sink>(
         ActsBy order call (library_below below) order.command }
     ensures ports { calls_ports order.command ≡ false → outside.new.ports ≡ outside.old.ports }
     ensures flushed { IsRunStatus result → S.held outside.new.out ≡ [] }
-    ensures files { ChangesBy (texts words.now) order.command (F.files outside.old.folder) (F.files outside.new.folder) }
+    ensures handed_on { result ≡ 13 → S.held outside.new.out ≡ [] }
+    ensures files { ChangesBy (texts words.now) order.save order.command (F.files outside.old.folder) (F.files outside.new.folder) }
 {
     if runs(order.command) {
         return run_order(order, alloc, words, below, outside);
@@ -159,7 +162,8 @@ fn obey<F: Folder, S: Sink, P: Port, E: Sink>(
         ObeysBy order call order.command }
     ensures ports { calls_ports order.command ≡ false → outside.new.ports ≡ outside.old.ports }
     ensures flushed { IsRunStatus result → S.held outside.new.out ≡ [] }
-    ensures files { ChangesBy (texts words.now) order.command (F.files outside.old.folder) (F.files outside.new.folder) }
+    ensures handed_on { result ≡ 13 → S.held outside.new.out ≡ [] }
+    ensures files { ChangesBy (texts words.now) order.save order.command (F.files outside.old.folder) (F.files outside.new.folder) }
 {
     let Some(at) = base_place(order) else {
         return act(order, alloc, words, None, outside);
@@ -223,11 +227,11 @@ pub fn mpy<F: Folder, S: Sink, P: Port, E: Sink>(
 
     // run FILE: the library of FILE is run, in the room and for the steps that are ordered, and its output is printed; or what kept
     // it from that is said. A file that begins as an image is one, over the base that is ordered, if one is, and the module that is
-    // ordered its main one.
+    // ordered its main one. Where the run takes all its steps, its state is saved to the file that is ordered for it, if one is.
     ensures run { let call = call_of F.Folder S.Sink P.Port E.Sink words.now outside.old outside.new result in
         OrdersOne call commands.Run (λ order file. Based call order.base (λ below.
         let main = main_name call.words order.main_name in
-        ShowsPorts call (EndsRun (RunLibrary below main) (room_of order) order.steps file))) }
+        ShowsPorts call (EndsRunTo (saved_name call.words order.save) (RunLibrary below main) (room_of order) order.steps file))) }
 
     // board IMAGE PLAN: the tasks of the plan are run by turns on the image, over the base that is ordered, if one is; the output of
     // each goes to its file, and a line for each is printed; or what kept them from that is said.
@@ -263,10 +267,12 @@ pub fn mpy<F: Folder, S: Sink, P: Port, E: Sink>(
     ensures counts { let call = call_of F.Folder S.Sink P.Port E.Sink words.now outside.old outside.new result in
         LeavesCounts call }
 
-    // With status 0, and with 1, 5 and 6 of a run, nothing of what is printed is held back.
+    // With status 0, and with 1, 5, 6 and 13 of a run, nothing of what is printed is held back.
     ensures flushed { IsRunStatus result → S.held outside.new.out ≡ [] }
+    ensures handed_on { result ≡ 13 → S.held outside.new.out ≡ [] }
 
-    // No command but cross, merge, freeze, migrate and board changes a file, and these none but FILE, OUT and the files of the tasks.
+    // No command but cross, merge, freeze, migrate, board and a run that saves its state changes a file, and these none but FILE, OUT,
+    // SNAP and the files of the tasks.
     ensures files { let call = call_of F.Folder S.Sink P.Port E.Sink words.now outside.old outside.new result in
         ChangesIn call.words (order_of call.words) call.old.files call.new.files }
 {

@@ -3,26 +3,26 @@ use Rattle.std.proofs.Common.{◌≡◌, ℕ, [], ◌∷◌, Option, Some, None,
 use Rattle.mpy_words.specs.declared.order.Command.{Command}
 use Rattle.mpy_words.specs.declared.order.Command.TheVariants.{Go, CheckAs, Cross, Merge, Freeze, Migrate, Run, Board, Stress}
 use Rattle.mpy_words.specs.declared.order.Named.TheVariants.{Source, File, Input, Output, Manifest, Plan, Count}
-use Rattle.mpy_words.specs.declared.order.Setting.TheVariants.{Level, StoredName, MainName, Base, Cells, Steps}
+use Rattle.mpy_words.specs.declared.order.Setting.TheVariants.{Level, StoredName, MainName, Base, Save, Cells, Steps}
 use Rattle.mpy_words.specs.declared.order.WordFault.TheVariants.{NoCommand, Unknown, MissingName, MissingValue, BadNumber, Twice}
 use Rattle.mpy_words.specs.Number.{value_of}
 use Rattle.mpy_words.specs.Words.{Outcome, settings, past_files, named, order_of, source_name, main_name}
 
 abbrev ordered : Command → ℕ → Option ℕ → Outcome
 ordered command level stored_name =
-    Ok (record { command = command; seed = 0; count = 0; level = level; stored_name = stored_name; main_name = None; base = None; cells = 65536; bytes = 262144; steps = 10000000 })
+    Ok (record { command = command; seed = 0; count = 0; level = level; stored_name = stored_name; main_name = None; base = None; save = None; cells = 65536; bytes = 262144; steps = 10000000 })
 
 abbrev runs : (cells bytes steps : ℕ) → Outcome
 runs cells bytes steps =
-    Ok (record { command = Run; seed = 0; count = 0; level = 0; stored_name = None; main_name = None; base = None; cells = cells; bytes = bytes; steps = steps })
+    Ok (record { command = Run; seed = 0; count = 0; level = 0; stored_name = None; main_name = None; base = None; save = None; cells = cells; bytes = bytes; steps = steps })
 
 abbrev goes : (level cells bytes steps : ℕ) → Outcome
 goes level cells bytes steps =
-    Ok (record { command = Go; seed = 0; count = 0; level = level; stored_name = None; main_name = None; base = None; cells = cells; bytes = bytes; steps = steps })
+    Ok (record { command = Go; seed = 0; count = 0; level = level; stored_name = None; main_name = None; base = None; save = None; cells = cells; bytes = bytes; steps = steps })
 
 abbrev stresses : (seed count : ℕ) → Outcome
 stresses seed count =
-    Ok (record { command = Stress; seed = seed; count = count; level = 0; stored_name = None; main_name = None; base = None; cells = 65536; bytes = 262144; steps = 10000000 })
+    Ok (record { command = Stress; seed = seed; count = count; level = 0; stored_name = None; main_name = None; base = None; save = None; cells = 65536; bytes = 262144; steps = 10000000 })
 
 no_word : order_of [] ≡ Err NoCommand
 unfolding settings named past_files value_of
@@ -223,7 +223,7 @@ unfolding settings named past_files value_of
 freeze_option = refl
 
 run_image : order_of (codes "run" ∷ codes "i.img" ∷ codes "-m" ∷ codes "-a" ∷ [])
-    ≡ Ok (record { command = Run; seed = 0; count = 0; level = 0; stored_name = None; main_name = Some 3; base = None; cells = 65536; bytes = 262144; steps = 10000000 })
+    ≡ Ok (record { command = Run; seed = 0; count = 0; level = 0; stored_name = None; main_name = Some 3; base = None; save = None; cells = 65536; bytes = 262144; steps = 10000000 })
 unfolding settings named past_files value_of
 run_image = refl
 
@@ -270,7 +270,7 @@ unfolding settings named past_files value_of
 board_plan = refl
 
 run_over : order_of (codes "run" ∷ codes "i.img" ∷ codes "--base" ∷ codes "b.img" ∷ codes "-m" ∷ codes "a" ∷ [])
-    ≡ Ok (record { command = Run; seed = 0; count = 0; level = 0; stored_name = None; main_name = Some 5; base = Some 3; cells = 65536; bytes = 262144; steps = 10000000 })
+    ≡ Ok (record { command = Run; seed = 0; count = 0; level = 0; stored_name = None; main_name = Some 5; base = Some 3; save = None; cells = 65536; bytes = 262144; steps = 10000000 })
 unfolding settings named past_files value_of
 run_over = refl
 
@@ -309,3 +309,17 @@ no_negative_seed = refl
 no_room_of_stress : order_of (codes "stress" ∷ codes "1" ∷ codes "2" ∷ codes "--cells" ∷ codes "1" ∷ []) ≡ Err (Unknown 3)
 unfolding settings named past_files value_of
 no_room_of_stress = refl
+
+-- the file that a run saves to, by its place
+saves : order_of (codes "run" ∷ codes "a.mpy" ∷ codes "--save" ∷ codes "s.bin" ∷ [])
+    ≡ Ok (record { command = Run; seed = 0; count = 0; level = 0; stored_name = None; main_name = None; base = None; save = Some 3; cells = 65536; bytes = 262144; steps = 10000000 })
+unfolding settings named past_files value_of
+saves = refl
+
+saves_to_none : order_of (codes "run" ∷ codes "a.mpy" ∷ codes "--save" ∷ codes "-s" ∷ []) ≡ Err (MissingValue Save)
+unfolding settings named past_files value_of
+saves_to_none = refl
+
+only_runs_save : order_of (codes "go" ∷ codes "a.py" ∷ codes "--save" ∷ codes "s.bin" ∷ []) ≡ Err (Unknown 2)
+unfolding settings named past_files value_of
+only_runs_save = refl

@@ -5,7 +5,7 @@ use Rattle.mpy_words.specs.declared.order.Command.TheVariants.{Go, Check, CheckA
 use Rattle.mpy_words.specs.declared.order.Named.{Named}
 use Rattle.mpy_words.specs.declared.order.Named.TheVariants.{Source, File, Input, Output, Manifest, Image, Plan, Seed, Count}
 use Rattle.mpy_words.specs.declared.order.Setting.{Setting}
-use Rattle.mpy_words.specs.declared.order.Setting.TheVariants.{Level, StoredName, MainName, Base, Cells, Bytes, Steps}
+use Rattle.mpy_words.specs.declared.order.Setting.TheVariants.{Level, StoredName, MainName, Base, Save, Cells, Bytes, Steps}
 
 -- how usage and messages call a named word
 abbrev pub name_of : Named → List ℕ
@@ -25,6 +25,7 @@ spelling_of Level = codes "-O"
 spelling_of StoredName = codes "-s"
 spelling_of MainName = codes "-m"
 spelling_of Base = codes "--base"
+spelling_of Save = codes "--save"
 spelling_of Cells = codes "--cells"
 spelling_of Bytes = codes "--bytes"
 spelling_of Steps = codes "--steps"
@@ -77,6 +78,7 @@ names_file Level = false
 names_file StoredName = false
 names_file MainName = false
 names_file Base = true
+names_file Save = true
 names_file Cells = false
 names_file Bytes = false
 names_file Steps = false
@@ -105,7 +107,8 @@ setting_of Board word = base_setting_of word
 setting_of Stress word = None
 setting_of Run word =
     if bytes_eq word (codes "-m") then Some MainName
-    else (if bytes_eq word (codes "--base") then Some Base else run_setting_of word)
+    else (if bytes_eq word (codes "--base") then Some Base
+    else (if bytes_eq word (codes "--save") then Some Save else run_setting_of word))
 setting_of Cross word =
     if bytes_eq word (codes "-O") then Some Level
     else (if bytes_eq word (codes "-s") then Some StoredName else None)

@@ -4,14 +4,14 @@ use Rattle.mpy_words.specs.declared.order.Command.{Command}
 use Rattle.mpy_words.specs.declared.order.Named.{Named}
 use Rattle.mpy_words.specs.declared.order.Named.TheVariants.{Source, File, Input, Output, Manifest, Image, Plan, Seed, Count}
 use Rattle.mpy_words.specs.declared.order.Setting.{Setting}
-use Rattle.mpy_words.specs.declared.order.Setting.TheVariants.{Level, StoredName, MainName, Base, Cells, Bytes, Steps}
+use Rattle.mpy_words.specs.declared.order.Setting.TheVariants.{Level, StoredName, MainName, Base, Save, Cells, Bytes, Steps}
 use Rattle.mpy_words.specs.declared.order.Order.{Order}
 use Rattle.mpy_words.specs.declared.given.Given.{Given}
 use Rattle.mpy_words.specs.Number.{number_of}
 
 -- no option was given
 abbrev pub none_given : Given
-none_given = record { seed = None; count = None; level = None; stored_name = None; main_name = None; base = None; cells = None; bytes = None; steps = None }
+none_given = record { seed = None; count = None; level = None; stored_name = None; main_name = None; base = None; save = None; cells = None; bytes = None; steps = None }
 
 -- was the option given?
 abbrev pub is_given : Given → Setting → Bool
@@ -19,6 +19,7 @@ is_given given Level = is_some given.level
 is_given given StoredName = is_some given.stored_name
 is_given given MainName = is_some given.main_name
 is_given given Base = is_some given.base
+is_given given Save = is_some given.save
 is_given given Cells = is_some given.cells
 is_given given Bytes = is_some given.bytes
 is_given given Steps = is_some given.steps
@@ -61,6 +62,7 @@ with_option given Level at word = option_map (λ level. record given { level = S
 with_option given StoredName at word = Some (record given { stored_name = Some at })
 with_option given MainName at word = Some (record given { main_name = Some at })
 with_option given Base at word = Some (record given { base = Some at })
+with_option given Save at word = Some (record given { save = Some at })
 with_option given Cells at word = option_map (λ cells. record given { cells = Some cells }) (number_of most_cells word)
 with_option given Bytes at word = option_map (λ bytes. record given { bytes = Some bytes }) (number_of most_bytes word)
 with_option given Steps at word = option_map (λ steps. record given { steps = Some steps }) (number_of most_steps word)
@@ -75,6 +77,7 @@ order_with command given = record {
   stored_name = given.stored_name;
   main_name = given.main_name;
   base = given.base;
+  save = given.save;
   cells = unwrap_or given.cells 65536;
   bytes = unwrap_or given.bytes 262144;
   steps = unwrap_or given.steps 10000000;
@@ -88,6 +91,7 @@ pub record IsBounded (count : ℕ) (given : Given) : Type 0 where
   pub stored_name : IfSome given.stored_name (λ at. at < count)
   pub main_name : IfSome given.main_name (λ at. at < count)
   pub base : IfSome given.base (λ at. at < count)
+  pub save : IfSome given.save (λ at. at < count)
   pub cells : IfSome given.cells (λ cells. cells ≤ most_cells)
   pub bytes : IfSome given.bytes (λ bytes. bytes ≤ most_bytes)
   pub steps : IfSome given.steps (λ steps. steps ≤ most_steps)

@@ -35,6 +35,11 @@ abbrev pub main_name : List (List ℕ) → Option ℕ → List ℕ
 main_name words None = codes "main"
 main_name words (Some at) = slice_index_or words at []
 
+-- the name of the file that a run saves to, if one is given
+abbrev pub saved_name : List (List ℕ) → Option ℕ → Option (List ℕ)
+saved_name words None = None
+saved_name words (Some at) = Some (slice_index_or words at [])
+
 -- a word that begins so names no file
 abbrev pub begins_with_dash : List ℕ → Bool
 begins_with_dash [] = false

@@ -39,6 +39,7 @@ pub struct Given {
     pub stored_name: Option<usize>,
     pub main_name: Option<usize>,
     pub base: Option<usize>,
+    pub save: Option<usize>,
     pub cells: Option<u32>,
     pub bytes: Option<u32>,
     pub steps: Option<u64>,
@@ -56,6 +57,7 @@ impl Given {
             stored_name: None,
             main_name: None,
             base: None,
+            save: None,
             cells: None,
             bytes: None,
             steps: None,
@@ -71,6 +73,7 @@ impl Given {
             Setting::StoredName => self.stored_name.is_some(),
             Setting::MainName => self.main_name.is_some(),
             Setting::Base => self.base.is_some(),
+            Setting::Save => self.save.is_some(),
             Setting::Cells => self.cells.is_some(),
             Setting::Bytes => self.bytes.is_some(),
             Setting::Steps => self.steps.is_some(),
@@ -127,6 +130,10 @@ impl Given {
                 base: Some(at),
                 ..self
             }),
+            Setting::Save => Some(Given {
+                save: Some(at),
+                ..self
+            }),
             Setting::Cells => match number(MAX_CELLS, word) {
                 Some(cells) => Some(Given {
                     cells: Some(cells as u32),
@@ -163,6 +170,7 @@ impl Given {
             stored_name: self.stored_name,
             main_name: self.main_name,
             base: self.base,
+            save: self.save,
             cells: self.cells.unwrap_or(DEFAULT_CELLS),
             bytes: self.bytes.unwrap_or(DEFAULT_BYTES),
             steps: self.steps.unwrap_or(DEFAULT_STEPS),

@@ -60,6 +60,8 @@ pub enum Setting {
     MainName,
     /// `--base`, the image on which another one stands.
     Base,
+    /// `--save`, the file that a run's state is written to where it takes all its steps.
+    Save,
     /// `--cells`, the cells of the arena of a run.
     Cells,
     /// `--bytes`, the bytes of the texts of its arena.
@@ -84,6 +86,8 @@ pub struct Order {
     pub main_name: Option<usize>,
     /// The place of the name of the image that is the base, where one was given.
     pub base: Option<usize>,
+    /// The place of the name of the file that a run's state is written to, where one was given.
+    pub save: Option<usize>,
     /// The cells of the arena of a run, 4,194,304 at most.
     pub cells: u32,
     /// The bytes of the texts of its arena, 16,777,216 at most.
@@ -138,6 +142,7 @@ impl Setting {
             Setting::StoredName => "-s",
             Setting::MainName => "-m",
             Setting::Base => "--base",
+            Setting::Save => "--save",
             Setting::Cells => "--cells",
             Setting::Bytes => "--bytes",
             Setting::Steps => "--steps",

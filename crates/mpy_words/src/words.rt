@@ -57,6 +57,7 @@ fn setting(command: Command, word: &str) -> Option<Setting>
         Command::Cross if word == "-s" => Some(Setting::StoredName),
         Command::Run if word == "-m" => Some(Setting::MainName),
         Command::Run if word == "--base" => Some(Setting::Base),
+        Command::Run if word == "--save" => Some(Setting::Save),
         Command::Go | Command::Run => run_setting(word),
         Command::Freeze | Command::Board => base_setting(word),
         _ => None,
@@ -105,7 +106,7 @@ fn names_none(setting: Setting, value: &str) -> bool
     ensures { result ≡ spec.names_none setting value.now }
 {
     match setting {
-        Setting::Base => begins_with_dash(value),
+        Setting::Base | Setting::Save => begins_with_dash(value),
         Setting::Level | Setting::StoredName | Setting::MainName => false,
         Setting::Cells | Setting::Bytes | Setting::Steps => false,
     }
@@ -146,6 +147,7 @@ fn settings(
     ensures stored_name { IfOk result (λ order. IfSome order.stored_name (λ at. at < count)) }
     ensures main_name { IfOk result (λ order. IfSome order.main_name (λ at. at < count)) }
     ensures base { IfOk result (λ order. IfSome order.base (λ at. at < count)) }
+    ensures save { IfOk result (λ order. IfSome order.save (λ at. at < count)) }
     ensures run { IfOk result RunsWithin }
 {
     let mut given = named;
@@ -184,6 +186,7 @@ fn named(count: usize, command: Command, words: &[String]) -> Result<Order, Word
     ensures stored_name { IfOk result (λ order. IfSome order.stored_name (λ at. at < count)) }
     ensures main_name { IfOk result (λ order. IfSome order.main_name (λ at. at < count)) }
     ensures base { IfOk result (λ order. IfSome order.base (λ at. at < count)) }
+    ensures save { IfOk result (λ order. IfSome order.save (λ at. at < count)) }
     ensures run { IfOk result RunsWithin }
 {
     let mut given = Given::none();
@@ -255,6 +258,9 @@ pub fn order_of(words: &[String]) -> Result<Order, WordFault>
 
     // So is the base's.
     ensures base { IfOk result (λ order. IfSome order.base (λ at. at < length words.now)) }
+
+    // So is that of the file to save to.
+    ensures save { IfOk result (λ order. IfSome order.save (λ at. at < length words.now)) }
 
     // The room and the steps are within their bounds.
     ensures run { IfOk result RunsWithin }

@@ -33,6 +33,7 @@ pub enum Callee {
 }
 
 /// The parts of a function.
+#[inline(always)]
 fn function_of<C: Constants>(arena: &Arena, _consts: &C, f: FunNo) -> Function
     requires function { IsA arena.now.objects AFunction f.cell }
     requires all_told { TellsAll C.Constants _consts.now arena.now }
@@ -49,6 +50,7 @@ fn function_of<C: Constants>(arena: &Arena, _consts: &C, f: FunNo) -> Function
 }
 
 /// What a call of a value does.
+#[inline(always)]
 pub fn callee_of<C: Constants>(arena: &Arena, _consts: &C, v: Value) -> Callee
     requires known { Knows C.Constants _consts.now arena.now v }
     requires all_told { TellsAll C.Constants _consts.now arena.now }

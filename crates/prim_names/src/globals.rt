@@ -22,6 +22,7 @@ pub(crate) fn name_bytes<C: Constants>(consts: &C, name: StrNo) -> &[u8]
 }
 
 /// What a name means that its namespace lacks.
+#[inline(never)]
 fn load_builtin<C: Constants>(_arena: &Arena, consts: &C, name: StrNo) -> Result<Value, Stop>
     requires name { IsSome (C.text_of consts.now name) }
     requires stands { under C.Constants consts.now Stands _arena.now [] }
@@ -34,6 +35,7 @@ fn load_builtin<C: Constants>(_arena: &Arena, consts: &C, name: StrNo) -> Result
 }
 
 /// The value of a name in the namespace of its module, else the built-in of that name.
+#[inline(always)]
 pub fn load_global<C: Constants>(
     arena: &Arena,
     consts: &C,

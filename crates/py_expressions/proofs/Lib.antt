@@ -16,6 +16,7 @@ pub mod Singles
 pub mod Names
 pub mod Tabled
 pub mod Apart
+pub mod Alone
 pub mod Behind
 pub mod Clauses
 pub mod Formed

@@ -7,3 +7,4 @@ pub mod Apart
 pub mod Targets
 pub mod Nests
 pub mod Laws
+pub mod Alone

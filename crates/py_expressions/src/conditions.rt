@@ -3,6 +3,7 @@
 ghost use Rattle.std.specs.Prelude.{◌≡◌, IfOk};
 ghost use Rattle.std.specs.Option.{option_copied};
 ghost use Rattle.py_tokens.specs.declared.word.Word.TheVariants as word;
+ghost use Rattle.py_expressions.specs.Alone as alone;
 ghost use Rattle.py_expressions.specs.Input.{Reads, input_of, seen};
 ghost use Rattle.py_expressions.specs.Reading as spec;
 ghost use Rattle.py_expressions.specs.Nests.{Nests};
@@ -31,6 +32,39 @@ fn comparison(kind: Option<&Tok>) -> Option<CompareOp>
         Some(Tok::Op(Op::NotEqual)) => Some(CompareOp::Ne),
         Some(Tok::Word(Word::In)) => Some(CompareOp::In),
         _ => None,
+    }
+}
+
+/// Is the token an operand by itself?
+fn is_operand(kind: &Tok) -> bool
+    ensures { result ≡ alone.is_operand kind.now }
+{
+    match kind {
+        Tok::Name(_) | Tok::Int(_) | Tok::Str(_) => true,
+        Tok::Word(Word::None | Word::True | Word::False) => true,
+        _ => false,
+    }
+}
+
+/// Does the token go on with no test in front of it?
+fn ends_test(kind: &Tok) -> bool
+    ensures { result ≡ alone.ends_test kind.now }
+{
+    match kind {
+        Tok::Op(Op::Comma | Op::Colon | Op::Assign) => true,
+        Tok::Op(Op::CloseParen | Op::CloseBracket | Op::CloseBrace) => true,
+        Tok::Newline => true,
+        _ => false,
+    }
+}
+
+/// One token comes next that is a whole test.
+fn is_alone(tokens: &Cursor<'_>) -> bool
+    ensures { result ≡ alone.alone_at tokens.now.ahead.now }
+{
+    match tokens.ahead {
+        [first, second, ..] => is_operand(&first.kind) && ends_test(&second.kind),
+        _ => false,
     }
 }
 
@@ -225,9 +259,10 @@ impl<F: Fn(Global, &mut Cursor<'_>, usize, Rule) -> Result<Expr, Refused<Syntax>
         Ok(Expr::Cond { test, yes, no })
     }
 
-    /// Reads a whole expression: `or` and what binds closer, and the `if` with its `else` behind it, if there is one.
+    /// Reads a test of any length.
+    #[inline(always)]
     #[tactic(auto, unfolding(crate::specs::Reading::whole_test))]
-    pub fn test(&self, tokens: &mut Cursor<'_>) -> Result<Expr, Refused<Syntax>>
+    fn long_test(&self, tokens: &mut Cursor<'_>) -> Result<Expr, Refused<Syntax>>
         requires { Nests self.now.depth (F.pre self.now.expr) (F.post self.now.expr) }
         ensures { Reads (spec.whole_test (spec.expr self.now.depth) (input_of tokens.old)) result tokens.new }
     {
@@ -237,6 +272,19 @@ impl<F: Fn(Global, &mut Cursor<'_>, usize, Rule) -> Result<Expr, Refused<Syntax>
             self.conditional(tokens, yes)
         } else {
             Ok(first)
+        }
+    }
+
+    /// Reads a whole expression: `or` and what binds closer, and the `if` with its `else` behind it, if there is one. Most are
+    /// one token, which is an atom.
+    pub fn test(&self, tokens: &mut Cursor<'_>) -> Result<Expr, Refused<Syntax>>
+        requires { Nests self.now.depth (F.pre self.now.expr) (F.post self.now.expr) }
+        ensures { Reads (spec.whole_test (spec.expr self.now.depth) (input_of tokens.old)) result tokens.new }
+    {
+        if is_alone(tokens) {
+            self.atom(tokens)
+        } else {
+            self.long_test(tokens)
         }
     }
 }

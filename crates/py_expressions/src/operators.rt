@@ -2,6 +2,7 @@
 
 ghost use Rattle.std.specs.Prelude.{◌≡◌, ◌<◌, ◌-◌};
 ghost use Rattle.std.specs.Option.{option_copied};
+ghost use Rattle.py_expressions.specs.Alone as alone;
 ghost use Rattle.py_expressions.specs.Input.{Reads, input_of, seen};
 ghost use Rattle.py_expressions.specs.Reading as spec;
 ghost use Rattle.py_expressions.specs.Nests.{Nests};
@@ -44,6 +45,20 @@ fn operator(level: u8, kind: Option<&Tok>) -> Option<BinaryOp>
         (5, Op::Caret) => Some(BinaryOp::Xor),
         (6, Op::Bar) => Some(BinaryOp::Or),
         _ => None,
+    }
+}
+
+/// Is it a binary operator of any level?
+fn operates(kind: Option<&Tok>) -> bool
+    ensures { result ≡ alone.operates (seen (option_copied kind.entry)) }
+{
+    let Some(Tok::Op(op)) = kind else {
+        return false;
+    };
+    match op {
+        Op::Star | Op::DoubleSlash | Op::Percent | Op::Plus | Op::Minus => true,
+        Op::ShiftLeft | Op::ShiftRight | Op::Ampersand | Op::Caret | Op::Bar => true,
+        _ => false,
     }
 }
 
@@ -133,6 +148,9 @@ impl<F: Fn(Global, &mut Cursor<'_>, usize, Rule) -> Result<Expr, Refused<Syntax>
         ensures { Reads (spec.sum (spec.expr self.now.depth) level (input_of tokens.old)) result tokens.new }
     {
         let mut found = self.factor(tokens)?;
+        if !operates(tokens.peek()) {
+            return Ok(found);
+        }
         for tighter in 0..level {
             found = self.chain(tokens, tighter + 1, found)?;
         }

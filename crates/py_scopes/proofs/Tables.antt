@@ -58,6 +58,11 @@ firsts-push (x ∷ names) name =
 abbrev pub same_key : Vec ℕ Global → Vec ℕ Global → Bool
 same_key x y = bytes_eq x.items y.items
 
+-- a set of no keys has no names
+pub no_keys : (keys : List (Vec ℕ Global)) → length keys ≡ 0 → map bytes_of keys ≡ []
+no_keys [] e = refl
+no_keys (k ∷ keys) e = absurd (omega (arith, e))
+
 pub any_names : (name : List ℕ) (keys : List (Vec ℕ Global)) → list_any (λ (key : Vec ℕ Global). bytes_eq name key.items) keys ≡ has name (map bytes_of keys)
 any_names name [] = refl
 any_names name (k ∷ keys) = ap (λ (b : Bool). bytes_eq name k.items || b) (any_names name keys)
@@ -113,3 +118,11 @@ module _ {S : Type 0} where
       ∙ (insert_names old.keys new.keys key name put is
       ∙ ap (λ (names : List (List ℕ)). added names name) (sym (names_at sets f old h at) ∙ ap (names_in sets) (sym e)))))
       (λ ne. names-set_other sets f g new ne)
+
+  -- a name that is there already
+  pub already : (sets : List (HashSet (Vec ℕ Global) S)) (f g : ℕ) (name : List ℕ) → has name (names_in sets f) ≡ true →
+      names_in sets g ≡ cond (nat_eq g f) (added (names_in sets g) name) (names_in sets g)
+  already sets f g name there =
+      pick f g _ _ _
+      (λ e. sym (ap (λ (b : Bool). cond b (names_in sets g) (names_in sets g ++ name ∷ [])) (ap (λ (h : ℕ). has name (names_in sets h)) e ∙ there)))
+      (λ ne. refl)

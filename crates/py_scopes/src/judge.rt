@@ -3,10 +3,11 @@
 ghost use Rattle.std.specs.Prelude.{◌≡◌, [], ◌∷◌, ◌++◌, length, filter, map, not, OnOk, IfOk, IfSome, IfNone};
 ghost use Rattle.py_scopes.specs.declared.names.Tells.TheVariants.{Bound as bound_names, Declared as declared_names};
 ghost use Rattle.py_scopes.specs.Names.{has, names_in, bytes_of};
+ghost use Rattle.py_scopes.specs.Asked.{Asks};
 ghost use Rattle.py_scopes.specs.Scopes.{own, marks, is_local as local_test, is_found as found_test, is_captured as captured_test, is_late as late_test, fault as fault_of, wrong as wrong_of, locals_below, IsFirst, AreFaultless};
 
 use crate::event::{Act, Event};
-use crate::names::{Tells, is_in, step};
+use crate::names::{Tells, are_empty, is_in, step};
 use indexmap::IndexSet;
 use mpy_base::{Items, NoMemory, SourceCode, SourceFault, Text};
 use std::alloc::Global;
@@ -55,10 +56,11 @@ fn is_captured(
     if around.is_empty() {
         return false;
     }
+    if !is_found(bound, declared, name, &around[1..]) {
+        return false;
+    }
     let inner = around[0];
-    !is_local(bound, declared, inner, name)
-        && !is_in(declared, inner, name)
-        && is_found(bound, declared, name, &around[1..])
+    !is_local(bound, declared, inner, name) && !is_in(declared, inner, name)
 }
 
 /// Has the name occurred in the innermost of these functions before?
@@ -121,6 +123,17 @@ fn wrong(
     }
 }
 
+/// The names that are asked for in front of an event: those that occur, and none where no name is declared.
+fn asked_names(declared: &[IndexSet<Vec<u8>>]) -> Tells
+    ensures { Asks result (names_in declared.now) }
+{
+    if are_empty(declared) {
+        Tells::Declared
+    } else {
+        Tells::Occurring
+    }
+}
+
 /// The fault that stands first.
 pub(crate) fn first_fault(
     alloc: Global,
@@ -133,13 +146,14 @@ pub(crate) fn first_fault(
     ensures some { IfOk result (λ o. IfSome o (IsFirst (marks events.now))) }
     ensures none { IfOk result (λ o. IfNone o (AreFaultless (marks events.now))) }
 {
+    let tells = asked_names(declared);
     let mut around = Vec::new(alloc);
     let mut seen = Vec::new(alloc);
     for event in events {
         if let Some(fault) = wrong(alloc, bound, declared, &seen, &around, event)? {
             return Ok(Some(fault));
         }
-        step(alloc, &mut seen, &mut around, Tells::Occurring, event)?;
+        step(alloc, &mut seen, &mut around, tells, event)?;
     }
     Ok(None)
 }

@@ -1,6 +1,6 @@
 //! The names of each function's own text.
 
-ghost use Rattle.std.specs.Prelude.{◌≡◌, ℕ, ◌<◌, List, [], ◌∷◌, ◌++◌, length, All, OnOk, IfOk, if◌then◌else◌, option_copied, nat_eq};
+ghost use Rattle.std.specs.Prelude.{◌≡◌, ℕ, ◌<◌, List, [], ◌∷◌, ◌++◌, length, All, IsTrue, OnOk, IfOk, if◌then◌else◌, option_copied, nat_eq};
 ghost use Rattle.py_scopes.specs.Names.{has, added, names_in};
 ghost use Rattle.py_scopes.specs.Scopes.{Mark, mark, told as names_told, own, marks, functions, around_behind, next_behind};
 
@@ -43,12 +43,27 @@ pub(crate) fn is_in(sets: &[IndexSet<Vec<u8>>], f: usize, name: &[u8]) -> bool
     sets[f].contains(name)
 }
 
-/// Puts the name among those of the function.
+/// Is no name in any of the sets?
+pub(crate) fn are_empty(sets: &[IndexSet<Vec<u8>>]) -> bool
+    ensures { IsTrue result → (f : ℕ) → names_in sets.now f ≡ [] }
+{
+    for set in sets {
+        if set.len() > 0 {
+            return false;
+        }
+    }
+    true
+}
+
+/// Puts the name among those of the function. One that is there already takes no memory.
 fn add(alloc: Global, sets: &mut Sets, f: usize, name: &[u8]) -> Result<(), NoMemory>
     requires { f < length sets.old.items }
     ensures count { OnOk result (length sets.new.items ≡ length sets.old.items) }
     ensures names { OnOk result ((g : ℕ) → names_in sets.new.items g ≡ (if nat_eq g f then added (names_in sets.old.items g) name.now else names_in sets.old.items g)) }
 {
+    if is_in(sets, f, name) {
+        return Ok(());
+    }
     sets[f].insert(Vec::from_slice(alloc, name)?)?;
     Ok(())
 }

@@ -1,8 +1,8 @@
 //! The texts that every file may name by number.
 
-ghost use Rattle.std.specs.Prelude.{◌≡◌, ◌↔◌, ◌<◌, ◌≤◌, length, map, position, option_copied, IsTrue, IsSome, IfSome};
-ghost use Rattle.std.specs.Str.{bytes_eq};
+ghost use Rattle.std.specs.Prelude.{◌≡◌, ◌↔◌, ◌<◌, ◌≤◌, length, map, option_copied, IsTrue, IsSome, IfSome};
 ghost use Rattle.qstr_pool.specs.Pool.{IsOneToOne, all_differ};
+ghost use Rattle.qstr_pool.specs.Slot.{slot};
 ghost use Rattle.qstr_pool.specs.Static.{static_texts, static_pool, static_text_of, static_number_of};
 
 /// The texts, in the order of their numbers.
@@ -174,6 +174,28 @@ const STATIC_TEXTS: [&[u8]; 165] = [
     b"zip",
 ];
 
+/// By how much the slots of texts of one kind are moved, so that no two of the texts have one slot.
+/// `bin/static-slots` finds these and the places from the texts.
+static SHIFTS: [u8; 32] = [
+    4, 14, 7, 0, 8, 9, 78, 3, 0, 11, 13, 52, 18, 16, 6, 0, 7, 1, 0, 26, 0, 3, 40, 3, 4, 21, 3, 1,
+    5, 10, 2, 19,
+];
+
+/// The place of the text that may stand in each slot. The others have the place of the empty text.
+static PLACES: [u8; 256] = [
+    99, 0, 0, 64, 0, 56, 0, 144, 0, 0, 0, 0, 0, 106, 32, 161, 0, 0, 0, 0, 120, 81, 0, 0, 46, 57, 0,
+    15, 0, 92, 139, 85, 11, 22, 0, 105, 164, 67, 75, 0, 4, 127, 82, 123, 134, 71, 62, 97, 141, 0,
+    27, 79, 0, 96, 145, 29, 0, 0, 124, 0, 0, 0, 0, 78, 70, 7, 0, 130, 61, 45, 128, 119, 0, 0, 104,
+    41, 0, 109, 0, 0, 34, 158, 136, 153, 0, 157, 83, 129, 0, 0, 156, 0, 39, 0, 74, 21, 42, 9, 162,
+    36, 26, 52, 0, 0, 152, 0, 159, 0, 90, 30, 3, 0, 25, 93, 13, 76, 0, 37, 0, 0, 137, 151, 6, 125,
+    0, 0, 98, 80, 154, 0, 69, 0, 24, 117, 0, 0, 143, 89, 135, 149, 102, 121, 43, 55, 111, 150, 100,
+    28, 51, 0, 126, 0, 0, 0, 1, 107, 10, 65, 72, 0, 91, 0, 108, 12, 31, 147, 94, 18, 60, 95, 8, 54,
+    160, 58, 66, 68, 133, 5, 73, 101, 0, 47, 0, 0, 116, 44, 14, 0, 0, 0, 0, 40, 0, 38, 0, 0, 142,
+    0, 19, 77, 2, 0, 0, 16, 131, 148, 84, 103, 132, 35, 112, 0, 122, 0, 87, 113, 0, 114, 23, 53,
+    48, 49, 163, 0, 0, 0, 0, 50, 0, 110, 33, 146, 0, 0, 88, 0, 115, 0, 0, 0, 0, 0, 59, 20, 63, 0,
+    138, 0, 0, 17, 118, 155, 140, 0, 0, 86,
+];
+
 /// How many texts every file may name by number.
 pub const STATIC_COUNT: u16 = 165;
 
@@ -188,26 +210,17 @@ fn texts() -> &'static [&'static [u8]]
     &STATIC_TEXTS
 }
 
-/// Is it this text? Most others are told apart by their lengths and first bytes.
+/// The slot of a text that isn't empty, by its length and three of its bytes.
 #[inline(always)]
-fn is_same(text: &[u8], known: &[u8]) -> bool
-    ensures { result ≡ bytes_eq text.now known.now }
+fn slot_of(text: &[u8]) -> usize
+    requires { 0 < length text.now }
+    ensures { result ≡ slot text.now }
 {
-    if text.len() != known.len() {
-        return false;
-    }
-    if !text.is_empty() && text[0] != known[0] {
-        return false;
-    }
-    text == known
-}
-
-/// The place of the first of the texts that is this one.
-fn place_of(texts: &[&[u8]], text: &[u8]) -> Option<usize>
-    ensures place { result ≡ position (λ known. bytes_eq text.now known.now) texts.now }
-    ensures within { IfSome result (λ place. place < length texts.now) }
-{
-    texts.iter().position(|known| is_same(text, known))
+    let first = usize::from(text[0]);
+    let middle = usize::from(text[text.len() / 2]);
+    let third = usize::from(text[(text.len() - 1).min(2)]);
+    let shift = usize::from(SHIFTS[(text.len() + 54 * first) % SHIFTS.len()]);
+    (9 * middle + 10 * third + shift) % PLACES.len()
 }
 
 /// The text of the number. Numbers count from 1.
@@ -224,8 +237,16 @@ pub fn static_number(text: &[u8]) -> Option<u16>
     ensures number { result ≡ static_number_of text.now }
     ensures within { IfSome result (λ n. (1 ≤ n) × (n ≤ STATIC_COUNT)) }
 {
-    let place = place_of(texts(), text)?;
-    Some(1 + place as u16)
+    if text.is_empty() {
+        return Some(1);
+    }
+    let place = usize::from(PLACES[slot_of(text)]);
+    let known = texts().get(place)?;
+    if text == *known {
+        Some(1 + place as u16)
+    } else {
+        None
+    }
 }
 
 /// No text stands twice, so that number and text are inverse to each other.

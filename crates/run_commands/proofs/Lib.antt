@@ -2,4 +2,5 @@ pub use Rattle.command_files.proofs.mpy_endings_lemmas
 pub mod Bases
 pub mod Running
 pub mod Going
+pub mod Suspending
 mod Starting

@@ -12,7 +12,7 @@ use Rattle.library_files.specs.Loads.{Loading, Loaded}
 use Rattle.command_files.specs.source_files.Sources.{stored, source_ending, IsModuleOf, LoadsFromSources}
 use Rattle.command_files.specs.mpy_endings.declared.ending.Ending.{Ending}
 use Rattle.command_files.specs.mpy_endings.declared.ending.Ending.TheVariants.{Done, Unaccepted, Unread, Unverified, Unmerged, Unopened, Unfrozen, Unboarded, Different, Stopped, ReadFault, WriteFault, Unwritten, NoMemory, Absent}
-use Rattle.command_files.specs.mpy_endings.declared.ending.Stop.TheVariants.{Past, LibraryFault, LibraryUnaccepted, Raised, Memory, Steps}
+use Rattle.command_files.specs.mpy_endings.declared.ending.Stop.TheVariants.{Past, LibraryFault, LibraryUnaccepted, Raised, Memory, Steps, Unsaved}
 use Rattle.run_commands.specs.Base.{base_of}
 use Rattle.command_files.specs.Source.{HoldsFaulty}
 use Rattle.command_files.specs.Folder.{MayHold}
@@ -57,6 +57,7 @@ RefusesSources level files name (Stopped (LibraryUnaccepted source)) = SourceLoa
 RefusesSources level files name (Stopped Raised) = ⊥
 RefusesSources level files name (Stopped Memory) = ⊥
 RefusesSources level files name (Stopped (Steps count)) = ⊥
+RefusesSources level files name (Stopped Unsaved) = ⊥
 RefusesSources level files name ReadFault = Unit {0}
 RefusesSources level files name WriteFault = ⊥
 RefusesSources level files name Unwritten = ⊥

@@ -9,3 +9,4 @@ pub mod Base
 pub mod Go
 pub mod Run
 pub mod Ready
+pub mod Save

@@ -24,7 +24,7 @@ use Rattle.library_runs.specs.Runs.{Sight, RunsAs}
 use Rattle.command_files.specs.mpy_words.declared.order.Order.{Order}
 use Rattle.command_files.specs.mpy_endings.declared.ending.Ending.{Ending}
 use Rattle.command_files.specs.mpy_endings.declared.ending.Ending.TheVariants.{Done, Unaccepted, Unread, Unverified, Unmerged, Unopened, Unfrozen, Unboarded, Different, Stopped, ReadFault, WriteFault, Unwritten, NoMemory, Absent}
-use Rattle.command_files.specs.mpy_endings.declared.ending.Stop.TheVariants.{Past, LibraryFault, LibraryUnaccepted, Raised, Memory, Steps}
+use Rattle.command_files.specs.mpy_endings.declared.ending.Stop.TheVariants.{Past, LibraryFault, LibraryUnaccepted, Raised, Memory, Steps, Unsaved}
 use Rattle.run_commands.specs.declared.ready.Ready.{Ready}
 use Rattle.run_commands.specs.Base.{base_of}
 use Rattle.command_files.specs.mpy_endings.Ending.{is_folder_fault, is_out_fault, status_of}
@@ -72,6 +72,7 @@ RefusesLibrary files name (Stopped (LibraryUnaccepted source)) = ⊥
 RefusesLibrary files name (Stopped Raised) = ⊥
 RefusesLibrary files name (Stopped Memory) = ⊥
 RefusesLibrary files name (Stopped (Steps count)) = ⊥
+RefusesLibrary files name (Stopped Unsaved) = ⊥
 RefusesLibrary files name ReadFault = Unit {0}
 RefusesLibrary files name WriteFault = ⊥
 RefusesLibrary files name Unwritten = ⊥
@@ -119,6 +120,7 @@ IsUnloaded (Stopped (LibraryUnaccepted source)) = Unit {0}
 IsUnloaded (Stopped Raised) = ⊥
 IsUnloaded (Stopped Memory) = ⊥
 IsUnloaded (Stopped (Steps count)) = ⊥
+IsUnloaded (Stopped Unsaved) = ⊥
 IsUnloaded ReadFault = Unit {0}
 IsUnloaded WriteFault = ⊥
 IsUnloaded Unwritten = ⊥
@@ -158,6 +160,7 @@ module _ (Comes : Result Ready Ending → Type 0) (room : Room) (steps : ℕ) (o
   Runs (Stopped Raised) = RanLibrary ends.Raised
   Runs (Stopped Memory) = RanLibrary ends.Memory
   Runs (Stopped (Steps count)) = RanLibrary ends.Limit × (count ≡ steps)
+  Runs (Stopped Unsaved) = ⊥
   Runs ReadFault = NotLoaded ReadFault
   Runs WriteFault = RanLibrary ends.WriteFault
   Runs Unwritten = ⊥

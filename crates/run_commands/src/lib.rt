@@ -5,6 +5,7 @@ mod base;
 mod go;
 mod ready;
 mod run;
+mod saving;
 
 pub use base::base_of;
 pub use command_files::{Ending, put_three, say_ending};
@@ -12,3 +13,4 @@ pub use go::source_ready;
 pub use library_runs::accounted_law;
 pub use ready::Ready;
 pub use run::{run_loaded, run_ready};
+pub use saving::run_saving;

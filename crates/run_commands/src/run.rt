@@ -138,7 +138,7 @@ pub fn run_ready<F: Folder>(
 }
 
 /// How a run ended whose library's run ended so.
-fn ending_of(end: RunEnd, steps: u64) -> Ending
+pub(crate) fn ending_of(end: RunEnd, steps: u64) -> Ending
     ensures { result ≡ spec.ending_of end steps }
 {
     match end {

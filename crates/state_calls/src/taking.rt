@@ -21,6 +21,7 @@ use vm_states::{Library, NumberOp, tops_law};
 
 /// CALL_FUNCTION or CALL_METHOD, where it was fetched for the running call: what it calls. Its operands are copied. It changes
 /// nothing else, and takes no memory.
+#[inline(always)]
 pub fn take_call(
     frames: &Frames,
     arena: &Arena,
@@ -58,6 +59,7 @@ pub fn take_call(
 }
 
 /// How many visits the call makes that was taken, up to `most`. It goes no further.
+#[inline(always)]
 pub fn visits_call_on(
     arena: &Arena,
     library: &Library,

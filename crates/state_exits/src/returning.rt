@@ -25,6 +25,7 @@ use vm_states::{
 };
 
 /// The call that waits takes the value of the one that it made, and goes on behind its instruction, which is fetched again.
+#[inline(always)]
 fn take(frames: &mut Frames, library: &Library, rows: &Rows<'_>, v: Value)
     requires rows { rows.now ≡ library.now }
     requires waits { (p : Program) × Means p × (p.shelf ≡ library.now) × IsWaiting p v frames.old }
@@ -47,6 +48,7 @@ fn take(frames: &mut Frames, library: &Library, rows: &Rows<'_>, v: Value)
 }
 
 /// The run goes on from where an instruction came to that may have left calls. It answers how the run ends, if it does.
+#[inline(always)]
 pub(crate) fn settle(
     frames: &mut Frames,
     library: &Library,

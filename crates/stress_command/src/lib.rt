@@ -7,6 +7,6 @@ mod making;
 mod running;
 mod source;
 
-pub use run_commands::{Ready, run_loaded, run_ready, source_ready};
+pub use run_commands::{Ready, run_loaded, run_ready, run_saving, source_ready};
 pub use running::stress;
 pub use source::stress_source;

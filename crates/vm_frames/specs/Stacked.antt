@@ -14,17 +14,18 @@ no_call = record { module_number = 0; code = 0; at = 0; names = record { cell = 
 abbrev pub no_frame : Held
 no_frame = record { call = no_call; slot_room = 0; entry_room = 0 }
 
--- the calls of the lowest frames, as many as the second argument says, the innermost first
-abbrev pub calls_in : List Held → ℕ → List Call
-calls_in frames zero = []
-calls_in frames (suc depth) = (slice_index_or frames depth no_frame).call ∷ calls_in frames depth
+-- the calls of the frame that runs and of those at places 1 and up, as many as the last argument says, the innermost first
+abbrev pub calls_in : Held → List Held → ℕ → List Call
+calls_in top frames zero = []
+calls_in top frames (suc depth) = top.call ∷ calls_in (slice_index_or frames depth no_frame) frames depth
 
 -- what the fields hold
 abbrev pub calls_of : Inside → Calls
-calls_of f = record { calls = calls_in f.frames.items f.depth; slot_room = f.slot_room; entry_room = f.entry_room }
+calls_of f = record { calls = calls_in f.top f.frames.items f.depth; slot_room = f.slot_room; entry_room = f.entry_room }
 
--- what the fields keep: a frame for each call that may nest, with the room of each
+-- what the fields keep: a frame for each call that may nest, and one more, with the room of each
 pub record IsFrames (f : Inside) : Type 0 where
   pub all : length f.frames.items ≡ MAX_CALLS
   pub deep : f.depth ≤ MAX_CALLS
   pub roomy : All (HasRoom f.slot_room f.entry_room) f.frames.items
+  pub top_roomy : HasRoom f.slot_room f.entry_room f.top

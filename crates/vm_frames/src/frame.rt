@@ -11,6 +11,7 @@ use crate::slot::{Entry, Role, Slot};
 use arena_heap::{DictNo, ExcNo, Value};
 use mpy_base::NoMemory;
 use std::alloc::Global;
+use std::default::MadeWith;
 use std::marker::Model;
 
 /// The memory of one call. It is taken once, and serves one call after another.
@@ -42,6 +43,25 @@ impl Model for Frame {
     ghost view = { held_of };
 
     ghost invariant = { IsFrame };
+}
+
+/// A frame without room, which takes no memory.
+impl MadeWith<Global> for Frame {
+    fn made_with(alloc: Global) -> Frame {
+        Frame {
+            module_number: 0,
+            code: 0,
+            at: 0,
+            names: DictNo { cell: 0 },
+            role: Role::Main,
+            locals: Vec::new(alloc),
+            slots: Vec::new(alloc),
+            height: 0,
+            entries: Vec::new(alloc),
+            slot_room: 0,
+            entry_room: 0,
+        }
+    }
 }
 
 /// What the last of the entries keeps that keeps something.
@@ -101,6 +121,7 @@ impl Frame {
     }
 
     /// The numbers of its module and of its code in that module, and the dict of its global names.
+    #[inline(always)]
     pub fn code(&self) -> (u32, u32, DictNo)
         ensures module_number { result.0 ≡ self.now.call.module_number }
         ensures code { result.1 ≡ self.now.call.code }
@@ -135,6 +156,7 @@ impl Frame {
     }
 
     /// What its end does.
+    #[inline(always)]
     pub fn role(&self) -> Role
         ensures { result ≡ self.now.call.role }
     {
@@ -142,6 +164,7 @@ impl Frame {
     }
 
     /// The offset of the instruction where it stands.
+    #[inline(always)]
     pub fn at(&self) -> u32
         ensures { result ≡ self.now.call.at }
     {
@@ -149,6 +172,7 @@ impl Frame {
     }
 
     /// It stands at this offset from now on.
+    #[inline(always)]
     pub fn go(&mut self, at: u32)
         ensures { self.new ≡ record self.old { call = record self.old.call { at = at } } }
     {
@@ -182,6 +206,7 @@ impl Frame {
     }
 
     /// The top slot, without which it goes on.
+    #[inline(always)]
     pub fn pop(&mut self) -> Slot
         requires { 0 < length self.old.call.slots }
         ensures { self.old ≡ record self.new { call = record self.new.call { slots = result ∷ self.new.call.slots } } }
@@ -213,6 +238,7 @@ impl Frame {
     }
 
     /// A slot, counted from the top.
+    #[inline(always)]
     pub fn slot(&self, i: u32) -> Slot
         requires { i < length self.now.call.slots }
         ensures { slice_get self.now.call.slots i ≡ Some result }
@@ -221,6 +247,7 @@ impl Frame {
     }
 
     /// A slot, counted from the top, is this one from now on.
+    #[inline(always)]
     pub fn set_slot(&mut self, i: u32, slot: Slot)
         requires { i < length self.old.call.slots }
         ensures { self.new ≡ record self.old { call = record self.old.call { slots = slice_set self.old.call.slots i slot } } }
@@ -230,6 +257,7 @@ impl Frame {
     }
 
     /// A local, or None where it is empty.
+    #[inline(always)]
     pub fn local(&self, i: u32) -> Option<Value>
         requires { i < length self.now.call.locals }
         ensures { slice_get self.now.call.locals i ≡ Some result }
@@ -238,6 +266,7 @@ impl Frame {
     }
 
     /// A local gets a value, or is emptied.
+    #[inline(always)]
     pub fn set_local(&mut self, i: u32, v: Option<Value>)
         requires { i < length self.old.call.locals }
         ensures { self.new ≡ record self.old { call = record self.old.call { locals = slice_set self.old.call.locals i v } } }

@@ -10,15 +10,20 @@ use crate::frame::Frame;
 use crate::moves;
 use crate::slot::{Entry, Role, Slot};
 use arena_heap::{DictNo, ExcNo, Value};
+use arrayvec::ArrayVec;
 use mpy_base::NoMemory;
 use mpy_base::limits::MAX_CALLS;
 use std::alloc::Global;
 use std::marker::Model;
+use std::mem;
 
 /// The calls of a run, in memory that is taken at once. Calls of it speak of the innermost call, which runs.
 #[derive(Drop)]
 pub struct Frames {
-    frames: Vec<Frame>,
+    /// The frame of the running call.
+    top: Frame,
+    /// Those of the calls that wait stand at places 1 and up, the outermost first. The others are spare.
+    frames: ArrayVec<Frame, MAX_CALLS, Global>,
     depth: usize,
     slot_room: u32,
     entry_room: u32,
@@ -37,12 +42,16 @@ impl Model for Frames {
 }
 
 /// As many frames as calls nest, with this room each.
-fn make_frames(alloc: Global, slots: u32, entries: u32) -> Result<Vec<Frame>, NoMemory>
+fn make_frames(
+    alloc: Global,
+    slots: u32,
+    entries: u32,
+) -> Result<ArrayVec<Frame, MAX_CALLS, Global>, NoMemory>
     ensures { IfOk result (λ v. (length v.items ≡ LIMIT) × All (HasRoom slots entries) v.items) }
 {
-    let mut frames = Vec::with_capacity(alloc, MAX_CALLS)?;
+    let mut frames = ArrayVec::new_in(alloc);
     for _i in 0..MAX_CALLS {
-        frames.push(Frame::new(alloc, slots, entries)?)?;
+        frames.push(Frame::new(alloc, slots, entries)?);
     }
     Ok(frames)
 }
@@ -53,7 +62,9 @@ impl Frames {
         ensures { IfOk result (λ f. f ≡ record { calls = []; slot_room = slots; entry_room = entries }) }
     {
         let frames = make_frames(alloc, slots, entries)?;
+        let top = Frame::new(alloc, slots, entries)?;
         Ok(Frames {
+            top,
             frames,
             depth: 0,
             slot_room: slots,
@@ -80,7 +91,12 @@ impl Frames {
         requires { i < length self.now.calls }
         ensures { slice_get (reverse self.now.calls) i ≡ Some result.now.call }
     {
-        &self.frames[i as usize]
+        let above = i as usize + 1;
+        if above < self.depth {
+            &self.frames[above]
+        } else {
+            &self.top
+        }
     }
 
     /// Begins a call of a code, with empty locals.
@@ -96,8 +112,10 @@ impl Frames {
         requires room { locals ≤ self.old.slot_room }
         ensures { self.new ≡ record self.old { calls = (record { module_number = module_number; code = code; at = 0; names = names; role = role; locals = replicate locals None; slots = []; entries = [] }) ∷ self.old.calls } }
     {
-        self.frames[self.depth].begin(module_number, code, names, role, locals);
-        self.depth += 1;
+        let at = self.depth;
+        mem::swap(&mut self.top, &mut self.frames[at]);
+        self.top.begin(module_number, code, names, role, locals);
+        self.depth = at + 1;
     }
 
     /// Ends the running call. The one that waits innermost runs again.
@@ -106,77 +124,85 @@ impl Frames {
         ensures calls { self.new ≡ record self.old { calls = drop 1 self.old.calls } }
         ensures role { OfRunning (λ c. result ≡ c.role) self.old.calls }
     {
-        self.depth -= 1;
-        self.frames[self.depth].role()
+        let role = self.top.role();
+        let at = self.depth - 1;
+        mem::swap(&mut self.top, &mut self.frames[at]);
+        self.depth = at;
+        role
     }
 
     /// The offset of its instruction.
+    #[inline(always)]
     pub fn offset(&self) -> u32
         requires { 0 < length self.now.calls }
         ensures { OfRunning (λ c. result ≡ c.at) self.now.calls }
     {
-        self.frames[self.depth - 1].at()
+        self.top.at()
     }
 
     /// The numbers of its module and of its code, and the dict of its module's names.
+    #[inline(always)]
     pub fn running(&self) -> (u32, u32, DictNo)
         requires { 0 < length self.now.calls }
         ensures module_number { OfRunning (λ c. result.0 ≡ c.module_number) self.now.calls }
         ensures code { OfRunning (λ c. result.1 ≡ c.code) self.now.calls }
         ensures names { OfRunning (λ c. result.2 ≡ c.names) self.now.calls }
     {
-        self.frames[self.depth - 1].code()
+        self.top.code()
     }
 
     /// What its end does.
+    #[inline(always)]
     pub fn role(&self) -> Role
         requires { 0 < length self.now.calls }
         ensures { OfRunning (λ c. result ≡ c.role) self.now.calls }
     {
-        self.frames[self.depth - 1].role()
+        self.top.role()
     }
 
     /// It stands at this offset from now on.
+    #[inline(always)]
     pub fn set_offset(&mut self, offset: u32)
         requires { 0 < length self.old.calls }
         ensures { self.new ≡ on_running (λ c. record c { at = offset }) self.old }
     {
-        let top = self.depth - 1;
-        self.frames[top].go(offset);
+        self.top.go(offset);
     }
 
     /// A local, or None where it is empty.
+    #[inline(always)]
     pub fn local(&self, i: u32) -> Option<Value>
         requires { OfRunning (λ c. i < length c.locals) self.now.calls }
         ensures { OfRunning (λ c. slice_get c.locals i ≡ Some result) self.now.calls }
     {
-        self.frames[self.depth - 1].local(i)
+        self.top.local(i)
     }
 
     /// A local gets a value, or is emptied.
+    #[inline(always)]
     pub fn set_local(&mut self, i: u32, v: Option<Value>)
         requires { OfRunning (λ c. i < length c.locals) self.old.calls }
         ensures { self.new ≡ on_running (λ c. record c { locals = slice_set c.locals i v }) self.old }
     {
-        let top = self.depth - 1;
-        self.frames[top].set_local(i, v);
+        self.top.set_local(i, v);
     }
 
     /// A slot, counted from the top, from 0.
+    #[inline(always)]
     pub fn slot(&self, i: u32) -> Slot
         requires { OfRunning (λ c. i < length c.slots) self.now.calls }
         ensures { OfRunning (λ c. slice_get c.slots i ≡ Some result) self.now.calls }
     {
-        self.frames[self.depth - 1].slot(i)
+        self.top.slot(i)
     }
 
     /// A slot, counted from the top, is this one from now on.
+    #[inline(always)]
     pub fn set_slot(&mut self, i: u32, slot: Slot)
         requires { OfRunning (λ c. i < length c.slots) self.old.calls }
         ensures { self.new ≡ on_running (λ c. record c { slots = slice_set c.slots i slot }) self.old }
     {
-        let top = self.depth - 1;
-        self.frames[top].set_slot(i, slot);
+        self.top.set_slot(i, slot);
     }
 
     /// A slot more, on top.
@@ -185,18 +211,17 @@ impl Frames {
         requires { OfRunning (λ c. length c.slots < self.old.slot_room) self.old.calls }
         ensures { self.new ≡ on_running (λ c. record c { slots = slot ∷ c.slots }) self.old }
     {
-        let top = self.depth - 1;
-        self.frames[top].push(slot);
+        self.top.push(slot);
     }
 
     /// The top slot, without which it goes on.
+    #[inline(always)]
     pub fn pop(&mut self) -> Slot
         requires { OfRunning (λ c. 0 < length c.slots) self.old.calls }
         ensures top { OfRunning (λ c. slice_get c.slots 0 ≡ Some result) self.old.calls }
         ensures rest { self.new ≡ on_running (λ c. record c { slots = drop 1 c.slots }) self.old }
     {
-        let top = self.depth - 1;
-        self.frames[top].pop()
+        self.top.pop()
     }
 
     /// An entry more, over all its slots, whose handler starts at an offset.
@@ -205,8 +230,7 @@ impl Frames {
         requires entry { OfRunning (λ c. length c.entries < self.old.entry_room) self.old.calls }
         ensures { self.new ≡ on_running (λ c. record c { entries = (record { handler = handler; is_finally = finally; height = length c.slots; kept = None }) ∷ c.entries }) self.old }
     {
-        let top = self.depth - 1;
-        self.frames[top].setup(handler, finally);
+        self.top.setup(handler, finally);
     }
 
     /// An entry more, innermost.
@@ -215,8 +239,7 @@ impl Frames {
         requires low { entry.height < self.old.slot_room }
         ensures { self.new ≡ on_running (λ c. record c { entries = entry ∷ c.entries }) self.old }
     {
-        let top = self.depth - 1;
-        self.frames[top].add_entry(entry);
+        self.top.add_entry(entry);
     }
 
     /// Drops its innermost entry.
@@ -224,8 +247,7 @@ impl Frames {
         requires { OfRunning (λ c. 0 < length c.entries) self.old.calls }
         ensures { self.new ≡ on_running (λ c. record c { entries = drop 1 c.entries }) self.old }
     {
-        let top = self.depth - 1;
-        self.frames[top].drop_entry();
+        self.top.drop_entry();
     }
 
     /// The exception that the innermost entry keeps which keeps one.
@@ -233,7 +255,7 @@ impl Frames {
         requires { 0 < length self.now.calls }
         ensures { OfRunning (λ c. result ≡ slice_get (kept_in c.entries) 0) self.now.calls }
     {
-        self.frames[self.depth - 1].last_raised()
+        self.top.last_raised()
     }
 
     /// Raises an exception: drops active entries, and enters the innermost other one. Gives the handler's offset, or None
@@ -243,8 +265,7 @@ impl Frames {
         ensures handler { OfRunning (λ c. result ≡ (raised e c).handler) self.old.calls }
         ensures moved { self.new ≡ on_running (λ c. (raised e c).call) self.old }
     {
-        let top = self.depth - 1;
-        moves::raise(&mut self.frames[top], e)
+        moves::raise(&mut self.top, e)
     }
 
     /// Returns, or jumps out of entries: enters the innermost finally that runs before, and gives its offset. None: a return
@@ -254,7 +275,6 @@ impl Frames {
         ensures handler { OfRunning (λ c. result ≡ (unwound kept c).handler) self.old.calls }
         ensures moved { self.new ≡ on_running (λ c. (unwound kept c).call) self.old }
     {
-        let top = self.depth - 1;
-        moves::unwind(&mut self.frames[top], kept)
+        moves::unwind(&mut self.top, kept)
     }
 }

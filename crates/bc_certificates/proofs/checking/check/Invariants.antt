@@ -6,4 +6,4 @@ use Rattle.bc_certificates.proofs.Checks.{Checked}
 use Rattle.bc_certificates.proofs.checking.check.Given as goal
 
 abbrev pub invariant-loop-p : goal.invariant-loop-p
-invariant-loop-p l = Checked (code_of l.code) (rows_of l.rows) l.p (at_if l.held.here (at_of l.held.x))
+invariant-loop-p l = Checked (code_of l.code) (rows_of l.table) l.p (at_if l.held.here (at_of l.held.x))

@@ -4,7 +4,6 @@ use Rattle.bc_flow.specs.bc_shapes.Views.{at_of}
 use Rattle.bc_flow.specs.Code.{code_of}
 use Rattle.bc_flow.specs.Edges.{edge_of, arrive, Next}
 use Rattle.bc_flow.specs.Views.{action_of, behind_of, edge_of_rust}
-use Rattle.bc_flow.proofs.Walks.{action_there}
 use Rattle.bc_certificates.specs.Rows.{at_if, brought}
 use Rattle.bc_certificates.specs.Checking.{Kept, rows_of}
 use Rattle.bc_certificates.proofs.Checks.{go_ends, go_falls, behind_from}
@@ -12,26 +11,20 @@ use Rattle.bc_certificates.proofs.checking.go.Goals.{After-held-1, After-swap}
 use Rattle.bc_certificates.proofs.checking.go.Goals as goal
 
 -- behind an instruction that ends the flow
-ends : (c : After-held-1) → Kept (code_of c.args.code.now) (rows_of c.args.rows.now) c.args.p (at_of c.args.held.now.x) × (None ≡ brought (code_of c.args.code.now) c.args.p (Some (at_of c.args.held.now.x)))
+ends : (c : After-held-1) → Kept (code_of c.args.code.now) (rows_of c.args.table.now) c.args.p (at_of c.args.held.now.x) × (None ≡ brought (code_of c.args.code.now) c.args.p (Some (at_of c.args.held.now.x)))
 ends c =
-    let items = c.args.code.now.items.items in
-    let i = action_of c.action_at-action.result in
-    let size : c.len.result ≡ length items = search rules in
-    let is = action_there (length items) c.len.result items c.args.p c.index.result.now i size c.requires.within c.index.ensures c.action_at-action.ensures in
-    go_ends (code_of c.args.code.now) (rows_of c.args.rows.now) i c.args.p (at_of c.args.held.now.x) is (OnTrue_at c.if-not-branch.false c.in_ok-stands.ensures) (sym c.falls.ensures ∙ c.if-not-falls.true)
+    let i = action_of c.args.action.now in
+    go_ends (code_of c.args.code.now) (rows_of c.args.table.now) i c.args.p (at_of c.args.held.now.x) c.requires.is (OnTrue_at c.if-not-branch.false c.in_ok-stands.ensures) (sym c.falls.ensures ∙ c.if-not-falls.true)
 
 -- and behind one that goes on
-goes_on : (c : After-swap) → Kept (code_of c.args.code.now) (rows_of c.args.rows.now) c.args.p (at_of c.args.held.now.x) × (Some (edge_of_rust c.next_edge.result).at ≡ brought (code_of c.args.code.now) c.args.p (Some (at_of c.args.held.now.x)))
+goes_on : (c : After-swap) → Kept (code_of c.args.code.now) (rows_of c.args.table.now) c.args.p (at_of c.args.held.now.x) × (Some (edge_of_rust c.next_edge.result).at ≡ brought (code_of c.args.code.now) c.args.p (Some (at_of c.args.held.now.x)))
 goes_on c =
-    let items = c.args.code.now.items.items in
-    let i = action_of c.action_at-action.result in
+    let i = action_of c.args.action.now in
     let x = at_of c.args.held.now.x in
-    let size : c.len.result ≡ length items = search rules in
-    let long : c.len-2.result ≡ length x.slots = search rules in
-    let is = action_there (length items) c.len.result items c.args.p c.index.result.now i size c.requires.within c.index.ensures c.action_at-action.ensures in
-    let behind_is = behind_from i x c.change_of.result c.len-2.result c.deref.result.now (behind_of c.entries_behind-behind.result) c.entries_behind-behind.ensures c.change_of.ensures long c.deref.ensures.value in
+    let long : c.len.result ≡ length x.slots = search rules in
+    let behind_is = behind_from i x c.change_of.result c.len.result c.deref.result.now (behind_of c.entries_behind-behind.result) c.entries_behind-behind.ensures c.change_of.ensures long c.deref.ensures.value in
     let e = c.next_edge.ensures x c.base-base.ensures ∙ ap (λ z. edge_of i x (arrive (suc c.args.p) z Next)) behind_is in
-    go_falls (code_of c.args.code.now) (rows_of c.args.rows.now) i c.args.p x (edge_of_rust c.next_edge.result) is (OnTrue_at c.if-not-branch.false c.in_ok-stands.ensures) (sym c.falls.ensures ∙ c.if-not-falls.false) e (OnTrue_at c.if-not-branch-2.false c.in_ok-falls_to.ensures.may)
+    go_falls (code_of c.args.code.now) (rows_of c.args.table.now) i c.args.p x (edge_of_rust c.next_edge.result) c.requires.is (OnTrue_at c.if-not-branch.false c.in_ok-stands.ensures) (sym c.falls.ensures ∙ c.if-not-falls.false) e (OnTrue_at c.if-not-branch-2.false c.in_ok-falls_to.ensures.may)
 
 pub returns-then-not-falls-clause-keeps : goal.returns-then-not-falls-clause-keeps
 returns-then-not-falls-clause-keeps c = (ends c).0

@@ -20,9 +20,9 @@ returns-then-not-held-clause-brings c =
 pub returns-clause-keeps : goal.returns-clause-keeps
 returns-clause-keeps c x e =
     let some = ap (λ b. at_if b (at_of c.args.held.now.x)) c.if-not-held.false in
-    subst (Kept (code_of c.args.code.now) (rows_of c.args.rows.now) c.args.p) (same_Some _ x (sym some ∙ e)) (OnTrue_at c.if-not-branch.false c.in_ok-go.ensures.keeps)
+    subst (Kept (code_of c.args.code.now) (rows_of c.args.table.now) c.args.p) (same_Some _ x (sym some ∙ e)) (OnTrue_at c.if-not-branch.false c.in_ok-go_on.ensures.keeps)
 
 pub returns-clause-brings : goal.returns-clause-brings
 returns-clause-brings c =
     let some = ap (λ b. at_if b (at_of c.args.held.now.x)) c.if-not-held.false in
-    OnTrue_at c.if-not-branch.false c.in_ok-go.ensures.brings ∙ sym (ap (brought (code_of c.args.code.now) c.args.p) some)
+    OnTrue_at c.if-not-branch.false c.in_ok-go_on.ensures.brings ∙ sym (ap (brought (code_of c.args.code.now) c.args.p) some)

@@ -15,4 +15,4 @@ returns c =
     let long : c.len.result ≡ length x.slots = search rules in
     let behind_is = behind_from i x c.change_of.result c.len.result c.deref.result.now (behind_of c.entries_behind-behind.result) c.entries_behind-behind.ensures c.change_of.ensures long c.deref.ensures.value in
     let edges_are = c.jump_edge.ensures x c.requires.base_is ∙ ap (λ z. map (edge_of i x) (jump_way (target i) z)) behind_is in
-    IfOk-weaker c.leads_if.result _ _ (λ yes h. OnTrue_from yes (Lead (rows_of c.args.rows.now) (jump_edges i x)) (λ e. subst (Lead (rows_of c.args.rows.now)) edges_are (OnTrue_at e h))) c.leads_if.ensures
+    IfOk-weaker c.leads_if.result _ _ (λ yes h. OnTrue_from yes (Lead (rows_of c.args.table.now) (jump_edges i x)) (λ e. subst (Lead (rows_of c.args.table.now)) edges_are (OnTrue_at e h))) c.leads_if.ensures

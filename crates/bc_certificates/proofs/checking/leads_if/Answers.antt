@@ -5,4 +5,4 @@ use Rattle.bc_certificates.proofs.Checks.{lead_none}
 use Rattle.bc_certificates.proofs.checking.leads_if.Goals as goal
 
 pub returns-in-None : goal.returns-in-None
-returns-in-None c = subst (λ o. Lead (rows_of c.args.rows.now) (map edge_of_rust (option_list o))) (sym c.in-None.is) (lead_none (rows_of c.args.rows.now))
+returns-in-None c = subst (λ o. Lead (rows_of c.args.table.now) (map edge_of_rust (option_list o))) (sym c.in-None.is) (lead_none (rows_of c.args.table.now))

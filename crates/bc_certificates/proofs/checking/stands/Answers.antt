@@ -24,5 +24,5 @@ returns c =
       state = sym c.room.ensures ∙ c.if-not-room.false;
       falls = sym c.stays.ensures ∙ c.if-not-stays.false;
       jumps = OnTrue_at c.if-not-branch.false c.in_ok-jump_leads.ensures;
-      raises = subst (Lead (rows_of c.args.rows.now)) (c.raise_edge.ensures i) (OnTrue_at c.if-not-branch-2.false c.in_ok-leads_if.ensures);
+      raises = subst (Lead (rows_of c.args.table.now)) (c.raise_edge.ensures i) (OnTrue_at c.if-not-branch-2.false c.in_ok-leads_if.ensures);
     }

@@ -10,5 +10,5 @@ use Rattle.bc_certificates.proofs.searching.certified.Goals as goal
 pub returns-in-Some : goal.returns-in-Some
 returns-in-Some c =
     let code = code_of c.args.code.now in
-    let rows = rows_of c.deref.result.now in
+    let rows = rows_of c.in-Some.table in
     IfOk-weaker c.check.result _ _ (λ yes h. OnTrue_from yes (Verified code) (λ e. (carried code rows, certified code rows (OnTrue_at e h)))) c.check.ensures

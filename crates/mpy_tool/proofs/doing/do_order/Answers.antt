@@ -1,9 +1,9 @@
-use Rattle.std.proofs.Common.{map, string_bytes, subst}
+use Rattle.std.proofs.Common.{map, string_bytes, subst, sym, ◌∙◌}
 use Rattle.mpy_endings.specs.Ending.{IsRunStatus}
 use Rattle.mpy_tool.specs.Below.{library_below}
 use Rattle.mpy_tool.specs.Call.{call_of}
 use Rattle.mpy_tool.proofs.Ended.{said_at}
-use Rattle.mpy_tool.proofs.Handing.{done_of}
+use Rattle.mpy_tool.proofs.Handing.{done_of, not_unsaved}
 use Rattle.mpy_tool.proofs.doing.do_order.Goals as goal
 
 pub returns-clause-ended : goal.returns-clause-ended
@@ -25,3 +25,10 @@ returns-clause-flushed g c = λ s.
     let told = g.S.Sink.told in
     c.done-ended.ensures.flushed (done_of c.args.order (map string_bytes c.args.words.now) (library_below c.args.below) (files c.args.outside.now.folder) (files c.done-ended.new.folder)
     (told c.args.outside.now.out) (told c.done-ended.new.out) c.done-ended.result.place c.args.order.command c.done-ended.result.ending c.done-ended.ensures.went (subst IsRunStatus c.status.ensures s))
+
+pub returns-clause-handed_on : goal.returns-clause-handed_on
+returns-clause-handed_on g c = λ s.
+    let files = g.F.Folder.files in
+    let told = g.S.Sink.told in
+    absurd (not_unsaved c.args.order (map string_bytes c.args.words.now) (library_below c.args.below) (files c.args.outside.now.folder) (files c.done-ended.new.folder)
+    (told c.args.outside.now.out) (told c.done-ended.new.out) c.done-ended.result.place c.args.order.command c.done-ended.result.ending c.done-ended.ensures.went (sym c.status.ensures ∙ s))

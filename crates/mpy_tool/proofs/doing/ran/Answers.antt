@@ -20,7 +20,7 @@ returns-in-Freeze-clause-went g c =
 
 pub returns-in-Freeze-clause-files : goal.returns-in-Freeze-clause-files
 returns-in-Freeze-clause-files g c =
-    freeze_changed (map string_bytes c.args.words.now) c.args.order.command (g.F.Folder.files c.args.folder.now) (g.F.Folder.files c.freeze_below.new.folder) (image_version c.args.order.base) (library_below c.args.below) c.word_at-name.result.now c.word_at-written.result.now c.freeze_below.result c.in-Freeze.is c.word_at-written.ensures c.freeze_below.ensures.went
+    freeze_changed (map string_bytes c.args.words.now) c.args.order.save c.args.order.command (g.F.Folder.files c.args.folder.now) (g.F.Folder.files c.freeze_below.new.folder) (image_version c.args.order.base) (library_below c.args.below) c.word_at-name.result.now c.word_at-written.result.now c.freeze_below.result c.in-Freeze.is c.word_at-written.ensures c.freeze_below.ensures.went
 
 pub returns-in-Freeze-clause-folder_counts : goal.returns-in-Freeze-clause-folder_counts
 returns-in-Freeze-clause-folder_counts g c =
@@ -33,4 +33,4 @@ returns-in-Board-clause-went g c =
 
 pub returns-in-Board-clause-files : goal.returns-in-Board-clause-files
 returns-in-Board-clause-files g c =
-    subst (λ (command : Command). ChangesBy (map string_bytes c.args.words.now) command (g.F.Folder.files c.args.folder.now) (g.F.Folder.files c.board_below.new.folder)) (sym c.in-Board.is) c.board_below.ensures.files
+    subst (λ (command : Command). ChangesBy (map string_bytes c.args.words.now) c.args.order.save command (g.F.Folder.files c.args.folder.now) (g.F.Folder.files c.board_below.new.folder)) (sym c.in-Board.is) c.board_below.ensures.files

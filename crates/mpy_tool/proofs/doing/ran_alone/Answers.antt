@@ -15,7 +15,7 @@ returns-in-Check-clause-went g c = λ below.
 
 pub returns-in-Check-clause-files : goal.returns-in-Check-clause-files
 returns-in-Check-clause-files g c =
-    same_changes (map string_bytes c.args.words.now) c.args.order.command (g.F.Folder.files c.args.folder.now) (g.F.Folder.files c.check.new.folder) c.check.ensures.files
+    same_changes (map string_bytes c.args.words.now) c.args.order.save c.args.order.command (g.F.Folder.files c.args.folder.now) (g.F.Folder.files c.check.new.folder) c.check.ensures.files
 
 pub returns-in-Check-clause-folder_counts : goal.returns-in-Check-clause-folder_counts
 returns-in-Check-clause-folder_counts g c =
@@ -32,7 +32,7 @@ returns-in-CheckAs-clause-went g c = λ below.
 
 pub returns-in-CheckAs-clause-files : goal.returns-in-CheckAs-clause-files
 returns-in-CheckAs-clause-files g c =
-    same_changes (map string_bytes c.args.words.now) c.args.order.command (g.F.Folder.files c.args.folder.now) (g.F.Folder.files c.check_as.new.folder) c.check_as.ensures.files
+    same_changes (map string_bytes c.args.words.now) c.args.order.save c.args.order.command (g.F.Folder.files c.args.folder.now) (g.F.Folder.files c.check_as.new.folder) c.check_as.ensures.files
 
 pub returns-in-Dump-clause-went : goal.returns-in-Dump-clause-went
 returns-in-Dump-clause-went g c = λ below.
@@ -41,7 +41,7 @@ returns-in-Dump-clause-went g c = λ below.
 
 pub returns-in-Dump-clause-files : goal.returns-in-Dump-clause-files
 returns-in-Dump-clause-files g c =
-    same_changes (map string_bytes c.args.words.now) c.args.order.command (g.F.Folder.files c.args.folder.now) (g.F.Folder.files c.dump.new.folder) c.dump.ensures.files
+    same_changes (map string_bytes c.args.words.now) c.args.order.save c.args.order.command (g.F.Folder.files c.args.folder.now) (g.F.Folder.files c.dump.new.folder) c.dump.ensures.files
 
 pub returns-in-Dump-clause-folder_counts : goal.returns-in-Dump-clause-folder_counts
 returns-in-Dump-clause-folder_counts g c =
@@ -58,7 +58,7 @@ returns-in-Cross-clause-went g c = λ below.
 
 pub returns-in-Cross-clause-files : goal.returns-in-Cross-clause-files
 returns-in-Cross-clause-files g c =
-    cross_changed (map string_bytes c.args.words.now) c.args.order.command (g.F.Folder.files c.args.folder.now) (g.F.Folder.files c.cross.new.folder) c.args.order.level c.word_at-name.result.now (stored c.source_name-stored.result.now) c.word_at-written.result.now c.cross.result c.in-Cross.is c.word_at-written.ensures c.cross.ensures.went
+    cross_changed (map string_bytes c.args.words.now) c.args.order.save c.args.order.command (g.F.Folder.files c.args.folder.now) (g.F.Folder.files c.cross.new.folder) c.args.order.level c.word_at-name.result.now (stored c.source_name-stored.result.now) c.word_at-written.result.now c.cross.result c.in-Cross.is c.word_at-written.ensures c.cross.ensures.went
 
 pub returns-in-Cross-clause-folder_counts : goal.returns-in-Cross-clause-folder_counts
 returns-in-Cross-clause-folder_counts g c =
@@ -71,7 +71,7 @@ returns-in-Merge-clause-went g c = λ below.
 
 pub returns-in-Merge-clause-files : goal.returns-in-Merge-clause-files
 returns-in-Merge-clause-files g c =
-    merge_changed (map string_bytes c.args.words.now) c.args.order.command (g.F.Folder.files c.args.folder.now) (g.F.Folder.files c.merge_files.new.folder) (map string_bytes c.file_names.result.now) c.word_at-name.result.now c.merge_files.result.place c.merge_files.result.ending c.in-Merge.is c.word_at-name.ensures c.merge_files.ensures.went
+    merge_changed (map string_bytes c.args.words.now) c.args.order.save c.args.order.command (g.F.Folder.files c.args.folder.now) (g.F.Folder.files c.merge_files.new.folder) (map string_bytes c.file_names.result.now) c.word_at-name.result.now c.merge_files.result.place c.merge_files.result.ending c.in-Merge.is c.word_at-name.ensures c.merge_files.ensures.went
 
 pub returns-in-Migrate-clause-went : goal.returns-in-Migrate-clause-went
 returns-in-Migrate-clause-went g c = λ below.
@@ -80,7 +80,7 @@ returns-in-Migrate-clause-went g c = λ below.
 
 pub returns-in-Migrate-clause-files : goal.returns-in-Migrate-clause-files
 returns-in-Migrate-clause-files g c =
-    migrate_changed (map string_bytes c.args.words.now) c.args.order.command (g.F.Folder.files c.args.folder.now) (g.F.Folder.files c.migrate.new.folder) c.word_at-name.result.now c.word_at.result.now c.migrate.result c.in-Migrate.is c.word_at.ensures c.migrate.ensures.went
+    migrate_changed (map string_bytes c.args.words.now) c.args.order.save c.args.order.command (g.F.Folder.files c.args.folder.now) (g.F.Folder.files c.migrate.new.folder) c.word_at-name.result.now c.word_at.result.now c.migrate.result c.in-Migrate.is c.word_at.ensures c.migrate.ensures.went
 
 pub returns-in-Migrate-clause-folder_counts : goal.returns-in-Migrate-clause-folder_counts
 returns-in-Migrate-clause-folder_counts g c =

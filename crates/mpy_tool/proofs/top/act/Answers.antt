@@ -9,10 +9,6 @@ returns-then-runs-clause-ended g c =
     let call = call_of g.F.Folder g.S.Sink g.P.Port g.E.Sink c.args.words.now c.args.outside.now c.run_order.new.outside c.run_order.result in
     acts_run c.args.order call (library_below c.args.below) c.args.order.command (sym c.runs.ensures ∙ c.if-runs.true) c.run_order.ensures.ended
 
-pub returns-then-runs-clause-files : goal.returns-then-runs-clause-files
-returns-then-runs-clause-files g c =
-    same_changes (texts c.args.words.now) c.args.order.command (g.F.Folder.files c.args.outside.now.folder) (g.F.Folder.files c.run_order.new.outside.folder) c.run_order.ensures.files
-
 pub returns-then-makes-clause-ended : goal.returns-then-makes-clause-ended
 returns-then-makes-clause-ended g c =
     let call = call_of g.F.Folder g.S.Sink g.P.Port g.E.Sink c.args.words.now c.args.outside.now c.make.new.outside c.make.result in
@@ -20,7 +16,7 @@ returns-then-makes-clause-ended g c =
 
 pub returns-then-makes-clause-files : goal.returns-then-makes-clause-files
 returns-then-makes-clause-files g c =
-    same_changes (texts c.args.words.now) c.args.order.command (g.F.Folder.files c.args.outside.now.folder) (g.F.Folder.files c.make.new.outside.folder) c.make.ensures.files
+    same_changes (texts c.args.words.now) c.args.order.save c.args.order.command (g.F.Folder.files c.args.outside.now.folder) (g.F.Folder.files c.make.new.outside.folder) c.make.ensures.files
 
 pub do_order-requires-clause-no_run : goal.do_order-requires-clause-no_run
 do_order-requires-clause-no_run g c = quiet c.args.order.command (sym c.runs.ensures ∙ c.if-runs.false) (sym c.makes.ensures ∙ c.if-makes.false)

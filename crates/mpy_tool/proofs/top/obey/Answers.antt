@@ -1,8 +1,8 @@
-use Rattle.std.proofs.Common.{refl, subst}
+use Rattle.std.proofs.Common.{refl, subst, sym, ◌∙◌}
 use Rattle.std.proofs.KnownBytes.{Keeps-refl}
 use Rattle.image_open.specs.image_grammar.bc_library.Shelf.{Shelf, no_entries}
 use Rattle.mpy_endings.specs.Ending.{IsRunStatus}
-use Rattle.mpy_endings.proofs.Statuses.{none_run}
+use Rattle.mpy_endings.proofs.Statuses.{none_run, none_unsaved}
 use Rattle.board_command.specs.command_files.Images.{RefusesImage}
 use Rattle.mpy_tool.specs.Call.{call_of}
 use Rattle.mpy_tool.specs.Doing.{ActsBy}
@@ -44,3 +44,8 @@ pub returns-in-Err-clause-flushed : goal.returns-in-Err-clause-flushed
 returns-in-Err-clause-flushed g c = λ s.
     let Refused = RefusesImage no_entries (g.F.Folder.files c.args.outside.now.folder) c.word_at-base.result.now in
     absurd (none_run Refused (λ p. p) (λ p. p) (λ p. p) (λ count p. p) c.in-Err.ending c.in-Err.ensures.refused (subst IsRunStatus c.say_refused.ensures.status s))
+
+pub returns-in-Err-clause-handed_on : goal.returns-in-Err-clause-handed_on
+returns-in-Err-clause-handed_on g c = λ s.
+    let Refused = RefusesImage no_entries (g.F.Folder.files c.args.outside.now.folder) c.word_at-base.result.now in
+    absurd (none_unsaved Refused (λ p. p) c.in-Err.ending c.in-Err.ensures.refused (sym c.say_refused.ensures.status ∙ s))

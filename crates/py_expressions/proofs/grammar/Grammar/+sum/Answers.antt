@@ -1,7 +1,9 @@
-use Rattle.std.proofs.Common.{◌≡◌, ◌+◌, ◌-◌, rules, arith}
+use Rattle.std.proofs.Common.{◌≡◌, ◌+◌, ◌-◌, false, sym, ap, ◌∙◌, rules, arith}
 use Rattle.std.proofs.lemmas.Grind.{common_steps}
-use Rattle.py_expressions.specs.Input.{input_of}
+use Rattle.py_expressions.specs.Alone.{operates}
+use Rattle.py_expressions.specs.Input.{input_of, kind}
 use Rattle.py_expressions.specs.Reading.{expr, chain, whole_chain, sum}
+use Rattle.py_expressions.proofs.Alone.{sum_ends}
 use Rattle.py_expressions.proofs.Levels.{sum_longer, sum_refused}
 use Rattle.py_expressions.proofs.Turns.{one_more, no_more}
 use Rattle.py_expressions.proofs.grammar.Grammar.+sum.Goals as goal
@@ -39,6 +41,12 @@ unfolding sum
 sum-returns-in_err-found g t c =
     let refused = sum_refused (expr c.args.self.now.depth) (input_of c.args.tokens.now) 0 c.args.level in
     first_of (search rules, grind (arith, common_steps))
+
+pub sum-returns-then-not-operates : goal.sum-returns-then-not-operates
+sum-returns-then-not-operates g t c =
+    let j = input_of c.factor.new.tokens in
+    let ends : operates (kind (input_of c.factor.new.tokens)) ≡ false = ap operates (sym c.peek.ensures) ∙ (sym c.operates.ensures ∙ c.if-not-operates.true) in
+    sum_ends (expr c.args.self.now.depth) (input_of c.args.tokens.now) c.args.level c.in_ok-found.found j c.in_ok-found.ensures ends
 
 pub sum-loop-tighter-init : goal.sum-loop-tighter-init
 unfolding sum

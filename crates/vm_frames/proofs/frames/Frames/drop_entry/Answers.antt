@@ -4,4 +4,4 @@ use Rattle.vm_frames.proofs.frames.Frames.drop_entry.Goals as goal
 
 pub returns : goal.returns
 returns c =
-    changed c.self.inside c.args.self.now c.index_mut.result.now c.drop_entry.new.self (λ d. record d { entries = drop 1 d.entries }) c.self.invariant c.self.view_is (some_call _ _ c.requires) c.index_mut.ensures.value c.drop_entry.ensures.dropped
+    changed c.self.inside c.args.self.now c.drop_entry.new.self (λ d. record d { entries = drop 1 d.entries }) c.self.view_is (some_call _ _ c.requires) c.drop_entry.ensures.dropped

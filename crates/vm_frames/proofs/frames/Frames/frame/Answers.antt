@@ -1,12 +1,20 @@
-use Rattle.std.proofs.Common.{◌≡◌, ◌<◌, length, arith}
-use Rattle.vm_frames.proofs.Stack.{depth_is, frame_at}
+use Rattle.std.proofs.Common.{◌≡◌, ◌+◌, length, arith, ap, ◌∙◌, List, rules}
+use Rattle.std.specs.Prelude.{slice_index_or}
+use Rattle.vm_frames.specs.Held.{Held}
+use Rattle.vm_frames.proofs.Stack.{waits_at, runs_at}
 use Rattle.vm_frames.proofs.frames.Frames.frame.Goals as goal
 
-pub index-requires : goal.index-requires
-index-requires c =
-    let f = c.self.inside in
-    let deep = depth_is f c.args.self.now c.self.view_is in
-    omega (arith, deep, c.requires, c.self.invariant.all, c.self.invariant.deep)
+pub bounds-deref-above : goal.bounds-deref-above
+bounds-deref-above c =
+    let seen : c.deref.result.now ≡ c.self.inside.frames.items = search rules in
+    omega (arith, c.if-above-self.true, c.self.invariant.all, c.self.invariant.deep, ap length seen)
 
-pub returns : goal.returns
-returns c = frame_at c.self.inside c.args.self.now c.args.i c.index.result.now c.self.invariant c.self.view_is c.requires c.index.ensures
+pub returns-then-above-self : goal.returns-then-above-self
+returns-then-above-self c =
+    let seen : c.deref.result.now ≡ c.self.inside.frames.items = search rules in
+    let x = c.index-deref-above.result in
+    waits_at c.self.inside c.args.self.now c.args.i x c.self.invariant c.self.view_is c.if-above-self.true
+    (c.index-deref-above.is ∙ ap (λ (zs : List Held). slice_index_or zs (c.args.i + 1) x) seen)
+
+pub returns-else-above-self : goal.returns-else-above-self
+returns-else-above-self c = runs_at c.self.inside c.args.self.now c.args.i c.self.view_is c.requires (omega (arith, c.if-above-self.false))

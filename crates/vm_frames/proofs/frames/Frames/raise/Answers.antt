@@ -7,6 +7,6 @@ use Rattle.vm_frames.proofs.frames.Frames.raise.Goals as goal
 
 pub returns-clause-moved : goal.returns-clause-moved
 returns-clause-moved c =
-    let x = c.index_mut.result.now in
-    changed c.self.inside c.args.self.now x c.raise.new.frame (λ d. (raised c.args.e d).call) c.self.invariant c.self.view_is c.requires c.index_mut.ensures.value
+    let x = c.self.inside.top in
+    changed c.self.inside c.args.self.now c.raise.new.frame (λ d. (raised c.args.e d).call) c.self.view_is c.requires
     (c.raise.ensures.room ∙ ap (λ (z : Call). with_call x z) (sym (ap (λ (z : Moved). z.call) c.raise.ensures.moved)))

@@ -4,4 +4,4 @@ use Rattle.vm_frames.proofs.frames.Frames.set_local.Goals as goal
 
 pub returns : goal.returns
 returns c =
-    changed c.self.inside c.args.self.now c.index_mut.result.now c.set_local.new.self (λ d. record d { locals = slice_set d.locals c.args.i c.args.v }) c.self.invariant c.self.view_is (some_call _ _ c.requires) c.index_mut.ensures.value c.set_local.ensures
+    changed c.self.inside c.args.self.now c.set_local.new.self (λ d. record d { locals = slice_set d.locals c.args.i c.args.v }) c.self.view_is (some_call _ _ c.requires) c.set_local.ensures

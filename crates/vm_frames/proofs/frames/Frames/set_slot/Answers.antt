@@ -4,4 +4,4 @@ use Rattle.vm_frames.proofs.frames.Frames.set_slot.Goals as goal
 
 pub returns : goal.returns
 returns c =
-    changed c.self.inside c.args.self.now c.index_mut.result.now c.set_slot.new.self (λ d. record d { slots = slice_set d.slots c.args.i c.args.slot }) c.self.invariant c.self.view_is (some_call _ _ c.requires) c.index_mut.ensures.value c.set_slot.ensures
+    changed c.self.inside c.args.self.now c.set_slot.new.self (λ d. record d { slots = slice_set d.slots c.args.i c.args.slot }) c.self.view_is (some_call _ _ c.requires) c.set_slot.ensures

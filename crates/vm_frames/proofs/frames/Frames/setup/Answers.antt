@@ -4,4 +4,4 @@ use Rattle.vm_frames.proofs.frames.Frames.setup.Goals as goal
 
 pub returns : goal.returns
 returns c =
-    changed c.self.inside c.args.self.now c.index_mut.result.now c.setup.new.self (λ d. record d { entries = (record { handler = c.args.handler; is_finally = c.args.finally; height = length d.slots; kept = None }) ∷ d.entries }) c.self.invariant c.self.view_is (some_call _ _ c.requires.slot) c.index_mut.ensures.value c.setup.ensures
+    changed c.self.inside c.args.self.now c.setup.new.self (λ d. record d { entries = (record { handler = c.args.handler; is_finally = c.args.finally; height = length d.slots; kept = None }) ∷ d.entries }) c.self.view_is (some_call _ _ c.requires.slot) c.setup.ensures

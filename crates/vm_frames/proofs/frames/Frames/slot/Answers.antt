@@ -5,4 +5,4 @@ use Rattle.vm_frames.proofs.frames.Frames.slot.Goals as goal
 
 pub returns : goal.returns
 returns c =
-    at_running (λ d. slice_get d.slots c.args.i ≡ Some c.slot.result) c.self.inside c.args.self.now c.index.result.now c.self.invariant c.self.view_is (some_call _ _ c.requires) c.index.ensures c.slot.ensures
+    at_running (λ d. slice_get d.slots c.args.i ≡ Some c.slot.result) c.self.inside c.args.self.now c.self.view_is (some_call _ _ c.requires) c.slot.ensures

@@ -3,9 +3,10 @@ use Rattle.std.proofs.KnownBytes.{Appends-nil}
 use Rattle.port_set.proofs.Counting.{counts_same}
 use Rattle.library_runs.specs.declared.ending.RunEnd.{RunEnd}
 use Rattle.library_runs.specs.Reports.{said_by}
-use Rattle.library_runs.specs.Runs.{RunsAs, sight}
-use Rattle.library_runs.proofs.Ended.{end_is_said, cut_in_all, over_in_all, unflushed_in_all}
-use Rattle.library_runs.proofs.running.run_library.Goals as goal
+use Rattle.library_runs.specs.Runs.{RunsAs, StandsAt, sight}
+use Rattle.vm_machine.specs.vm_starting.declared.opening.Vm.{Vm}
+use Rattle.library_runs.proofs.Ended.{end_is_said, cut_in_all, leaves, over_in_all, stands_in_all, unflushed_in_all}
+use Rattle.library_runs.proofs.running.run_for.Goals as goal
 
 pub returns-in-Err-run-clause-runs : goal.returns-in-Err-run-clause-runs
 returns-in-Err-run-clause-runs g c = λ n at. (
@@ -26,14 +27,24 @@ returns-in-Ok-flush-clause-runs g c = λ n at.
     let old = sight g.S.Sink.told g.P.Port.seen c.args.out.now c.args.ports.now in
     let new = sight g.S.Sink.told g.P.Port.seen c.flush.new.self c.run.new.ports in (
       said_by shelf vm vm.end,
-      subst (λ (end : RunEnd). RunsAs shelf n.name c.args.room c.args.steps old new end (said_by shelf vm vm.end)) (sym c.say_end.ensures.end) (record {
+      subst (λ (end : RunEnd). RunsAs shelf n.name c.args.room c.args.steps old new end (said_by shelf vm vm.end)) (sym c.say_end-end.ensures.end) (record {
         program = c.program_law.ensures.exists shelf c.requires.runnable;
         is_said = end_is_said shelf vm vm.end;
         runs = over_in_all c.output_law.ensures.starts c.output_law.ensures.runs c.put_law.ensures g.S.Sink.told shelf c.args.main n at c.args.room c.args.steps c.in-Ok-open.vm c.in-Ok-open.ensures.starts
             (record { out = c.args.out.now; ports = map g.P.Port.seen c.args.ports.now }) (record { out = c.run.new.out; ports = map g.P.Port.seen c.run.new.ports }) vm c.in-Ok-run.ensures.runs (g.S.Sink.told c.flush.new.self) c.flush.ensures.same;
       }),
-      c.say_end.ensures.said,
+      c.say_end-end.ensures.said,
     )
+
+-- the machine that is left stands where the run was stopped
+pub returns-in-Ok-flush-clause-leaves : goal.returns-in-Ok-flush-clause-leaves
+returns-in-Ok-flush-clause-leaves g c = λ n at.
+    let shelf = c.args.library.now in
+    let old = sight g.S.Sink.told g.P.Port.seen c.args.out.now c.args.ports.now in
+    let new = sight g.S.Sink.told g.P.Port.seen c.flush.new.self c.run.new.ports in
+    leaves c.run.new.vm c.say_end-end.result c.unended.result (λ (vm : Vm). StandsAt shelf n.name c.args.room c.args.steps old new vm) c.say_end-end.ensures.end c.unended.ensures
+    (stands_in_all c.output_law.ensures.starts c.output_law.ensures.runs c.put_law.ensures g.S.Sink.told shelf c.args.main n at c.args.room c.args.steps c.in-Ok-open.vm c.in-Ok-open.ensures.starts
+    (record { out = c.args.out.now; ports = map g.P.Port.seen c.args.ports.now }) (record { out = c.run.new.out; ports = map g.P.Port.seen c.run.new.ports }) c.run.new.vm c.in-Ok-run.ensures.runs (g.S.Sink.told c.flush.new.self) c.flush.ensures.same)
 
 pub returns-clause-runs : goal.returns-clause-runs
 returns-clause-runs g c = λ n at. (

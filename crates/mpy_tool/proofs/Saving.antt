@@ -1,0 +1,38 @@
+-- Runs whose state is saved, as the order says it.
+use Rattle.std.proofs.Common.{◌≡◌, ℕ, List, [], Option, Some, None, Result, refl}
+use Rattle.std.specs.Prelude.{slice_index_or}
+use Rattle.mpy_base.specs.declared.room.Room.{Room}
+use Rattle.mpy_io.specs.Files.{FileOf}
+use Rattle.mpy_words.specs.Words.{first_name, saved_name}
+use Rattle.mpy_endings.specs.declared.ending.Ending.{Ending}
+use Rattle.mpy_endings.specs.declared.ending.Ending.TheVariants.{Done, Unaccepted, Unread, Unverified, Unmerged, Unopened, Unfrozen, Unboarded, Different, Stopped, ReadFault, WriteFault, Unwritten, NoMemory, Absent}
+use Rattle.stress_command.specs.run_commands.declared.ready.Ready.{Ready}
+use Rattle.stress_command.specs.run_commands.library_runs.Runs.{Sight}
+use Rattle.stress_command.specs.run_commands.Save.{RunsTo, place_to}
+use Rattle.stress_command.proofs.run_commands_lemmas.Suspending.{saving_only, word_to}
+use Rattle.mpy_tool.specs.Order.{ChangesSaved}
+
+-- the word that the line names
+pub named_by : (words : List (List ℕ)) (save : Option ℕ) (ending : Ending) → slice_index_or words (place_to save ending) [] ≡ word_to (saved_name words save) (first_name words) ending
+named_by words None ending = refl
+named_by words (Some at) Done = refl
+named_by words (Some at) (Unaccepted fault) = refl
+named_by words (Some at) (Unread fault) = refl
+named_by words (Some at) (Unverified fault) = refl
+named_by words (Some at) (Unmerged fault) = refl
+named_by words (Some at) (Unopened fault) = refl
+named_by words (Some at) (Unfrozen fault) = refl
+named_by words (Some at) (Unboarded fault) = refl
+named_by words (Some at) (Different difference) = refl
+named_by words (Some at) (Stopped stop) = refl
+named_by words (Some at) ReadFault = refl
+named_by words (Some at) WriteFault = refl
+named_by words (Some at) Unwritten = refl
+named_by words (Some at) NoMemory = refl
+named_by words (Some at) Absent = refl
+
+-- what changed
+pub saved_changes : (snap : Option (List ℕ)) (Comes : Result Ready Ending → Type 0) (room : Room) (steps : ℕ) (a b : Sight) (said : List ℕ) (old new : Option FileOf) (ending : Ending)
+    → RunsTo snap Comes room steps a b said old new ending → ChangesSaved snap old new
+saved_changes None Comes room steps a b said old new ending ran = ran.1
+saved_changes (Some snap) Comes room steps a b said old new ending ran = saving_only room steps a b said snap old new Comes ending ran
