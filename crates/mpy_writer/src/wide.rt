@@ -100,7 +100,8 @@ fn wide_own(alloc: Global, tables: &Tables, code: &Code) -> Result<usize, NoMemo
 fn write_counts(out: &mut Vec<u8>, code: &Code, own: usize) -> Result<(), NoMemory>
     requires sound { IsNumberedCode code.now }
     requires short { own ≤ MAX_FILE_BYTES }
-    ensures { OnOk result (out.new.items ≡ out.old.items ++ (vuint (header_of own (has_some (out-Code code.now).children)) ++ count_bytes (out-Code code.now).children)) }
+    ensures { OnOk result (out.new.items ≡ out.old.items
+        ++ (vuint (header_of own (has_some (out-Code code.now).children)) ++ count_bytes (out-Code code.now).children)) }
 {
     if code.children.is_empty() {
         write_vuint(out, 8 * own as u32)?;
@@ -178,8 +179,8 @@ fn first_past(
     }
 }
 
-/// The first code of the module that is too long with all jumps wide, by its place in preorder: the module's own where the file as a
-/// whole is. Where none is, the module has a file unless a jump is too far. It is a walk as `write` makes one.
+/// The first code of the module that is too long with all jumps wide, by its place in preorder: the module's own where the
+/// file as a whole is. Where none is, the module has a file unless a jump is too far. It is a walk as `write` makes one.
 pub fn first_long(alloc: Global, tree: &ModuleCode) -> Result<Option<usize>, NoMemory>
     requires { IsWritable tree.now }
     ensures found { IfOk result (λ found. IfSome found (PassesAt tree.now)) }
@@ -197,10 +198,11 @@ pub fn first_long(alloc: Global, tree: &ModuleCode) -> Result<Option<usize>, NoM
     }
 }
 
-/// A code is no longer than with all jumps wide. A module that fits so, of which no jump is too far, has no fault; and one code at
-/// most is the first that is too long, and none where it fits.
+/// A code is no longer than with all jumps wide. A module that fits so, of which no jump is too far, has no fault; and one
+/// code at most is the first that is too long, and none where it fits.
 pub fn wide_law()
-    ensures own { (tables : TablesOf) (code : CodeOf) (own : List ℕ) → IsOwn tables code own → length own ≤ specs.wide_own tables code }
+    ensures own { (tables : TablesOf) (code : CodeOf) (own : List ℕ) → IsOwn tables code own
+        → length own ≤ specs.wide_own tables code }
     ensures fits { (m : Whole) → FitsWide m → ((tables : TablesOf) → AreTables m tables → SomeFar tables (codes m) → ⊥)
         → (fault : WriteFault) → FirstFault m fault → ⊥ }
     ensures one { (m : Whole) (i j : ℕ) → PassesAt m i → PassesAt m j → i ≡ j }
