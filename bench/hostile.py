@@ -271,6 +271,12 @@ HOSTILE = {
     'dead-9000': dead(4090, 9000),
     'plain': plain(32700),
     'refused-closing-400': refused(closing(400, 0, 2500)),
+    'refused-closing-1000': refused(closing(1000, 0, 8190)),
+    'refused-closing-1000-over-2700': refused(closing(1000, 2700, 7000)),
+    'refused-closing-2000': refused(closing(2000, 0, 5990)),
+    'refused-closing-3600': refused(closing(3600, 0, 2290)),
+    'refused-branches-over-open': refused(looking(4000, 9500, True)),
+    'refused-tries-in-250': refused(tries(250, 6000, 3500)),
 }
 
 if __name__ == '__main__':

@@ -83,7 +83,7 @@ tables_made m tables texts objects = record {
   objects = subst (IsTable (map spelled (used.objects_used m))) (sym objects) (table_made (map spelled (used.objects_used m)));
 }
 
-abbrev all_used : ModuleCode → Tables
+abbrev pub all_used : ModuleCode → Tables
 all_used m = record { texts = all_interned no_texts (used.texts_used m); objects = all_interned no_texts (map spelled (used.objects_used m)) }
 
 pub many_names : (m : ModuleCode) (f : WriteFault) → PassesTable no_texts (used.texts_used m) f ⊎ PassesTable no_texts (map spelled (used.objects_used m)) f → FirstFault m f

@@ -113,7 +113,7 @@ pub seen_item : (tables : Tables) (ys : List Item) (i : ℕ) (y : Item) → i < 
 seen_item tables ys i y lt is = get_or-map (item_of tables) ys i y (At 0) lt ∙ ap (item_of tables) (sym is)
 
 -- an item has at most six bytes
-few_bytes : (count : ℕ) (it : Labelled) (wide : Bool) → IsPlaced count it → size_of it wide ≤ 6
+pub few_bytes : (count : ℕ) (it : Labelled) (wide : Bool) → IsPlaced count it → size_of it wide ≤ 6
 few_bytes count (At label) wide placed = absurd placed
 few_bytes count (Plain instr) wide placed = size_bound [] (Plain instr) wide placed
 few_bytes count (Jump op q) true placed = omega arith
@@ -128,7 +128,7 @@ position_within count (Jump op q) placed some = placed.1
 position_within count (Unwind q byte) placed some = placed
 
 -- the bytes of an item
-length-instr : (it : Labelled) (z : ℤ) (wide : Bool) → length (flat_map spelling (instr_of it z wide)) ≡ size_of it wide
+pub length-instr : (it : Labelled) (z : ℤ) (wide : Bool) → length (flat_map spelling (instr_of it z wide)) ≡ size_of it wide
 length-instr (At label) z wide = refl
 length-instr (Plain instr) z wide = ap length (append-nil (spelling instr))
 length-instr (Jump op label) z true = refl
@@ -187,7 +187,7 @@ module _ (tables : Tables) where
     item_is p lt = item_behind 0 p ys lt
 
     -- a jump goes to the label of the position that it names
-    label_found : (q : ℕ) → q < length ys → label_item all q ≡ double q
+    pub label_found : (q : ℕ) → q < length ys → label_item all q ≡ double q
     label_found q lt =
         let stands_once : StandsOnce all q = once tables q 0 ys (omega arith) (omega (arith, lt)) in
         stands all q (double q) stands_once (omega (arith, whole, double_is q, double_is (length ys), lt)) (label_is q lt)

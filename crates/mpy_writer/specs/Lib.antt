@@ -8,4 +8,5 @@ pub mod Layouts
 pub mod Outcome
 pub mod Positions
 pub mod Tables
+pub mod Wide
 pub mod Writable

@@ -15,7 +15,7 @@ use crate::fault::WriteFault;
 use crate::layout::{Layout, by_positions};
 use crate::tables::Tables;
 use bc_prelude::{Signature, write_lines, write_signature, write_size};
-use mpy_base::limits::MAX_CODE_BYTES;
+use mpy_base::limits::{MAX_CODE_BYTES, MAX_FILE_BYTES};
 use mpy_base::{NoMemory, Refused, write_vuint};
 use mpy_tree::Code;
 use std::alloc::Global;
@@ -50,8 +50,12 @@ pub(crate) fn layouts(
 }
 
 /// The starts at which the line isn't that of the instruction before, each with its line.
-fn line_changes(alloc: Global, starts: &[usize], lines: &[u32]) -> Result<Vec<(u32, u32)>, NoMemory>
-    requires short { All (λ start. start ≤ MAX_CODE_BYTES) starts.now }
+pub(crate) fn line_changes(
+    alloc: Global,
+    starts: &[usize],
+    lines: &[u32],
+) -> Result<Vec<(u32, u32)>, NoMemory>
+    requires short { All (λ start. start ≤ MAX_FILE_BYTES) starts.now }
     requires a_line_each { length starts.now ≡ length lines.now }
     ensures { IfOk result (λ pairs. pairs.items ≡ changes 1 (zip starts.now lines.now)) }
 {
@@ -67,7 +71,7 @@ fn line_changes(alloc: Global, starts: &[usize], lines: &[u32]) -> Result<Vec<(u
 }
 
 /// Adds the numbers of the code's name and arguments.
-fn write_names(out: &mut Vec<u8>, tables: &Tables, code: &Code) -> Result<(), NoMemory>
+pub(crate) fn write_names(out: &mut Vec<u8>, tables: &Tables, code: &Code) -> Result<(), NoMemory>
     requires { TablesFit tables.now }
     ensures { OnOk result (out.new.items ≡ out.old.items ++ spelling (indexes_of tables.now code.now)) }
 {
@@ -79,7 +83,7 @@ fn write_names(out: &mut Vec<u8>, tables: &Tables, code: &Code) -> Result<(), No
 }
 
 /// What the prelude of a code says of its call: its slots, handler entries, parameters and defaults.
-fn signature(code: &Code) -> Signature
+pub(crate) fn signature(code: &Code) -> Signature
     requires { IsNumberedCode code.now }
     ensures { result ≡ signature_of code.now }
 {

@@ -34,7 +34,7 @@ fn object_number(alloc: Global, tables: &Tables, object: &Constant) -> Result<u3
 }
 
 /// Adds the bytes of an item.
-fn write_draft(
+pub(crate) fn write_draft(
     alloc: Global,
     out: &mut Vec<u8>,
     tables: &Tables,

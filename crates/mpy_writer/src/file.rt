@@ -66,7 +66,7 @@ fn write_objects(out: &mut Vec<u8>, objects: &Pool) -> Result<(), NoMemory>
 }
 
 /// The bytes in front of the codes.
-fn front(alloc: Global, tables: &Tables) -> Result<Vec<u8>, NoMemory>
+pub(crate) fn front(alloc: Global, tables: &Tables) -> Result<Vec<u8>, NoMemory>
     requires fits { TablesFit tables.now }
     requires fine { All IsText tables.now.texts.texts }
     ensures { IfOk result (λ out. out.items ≡ front_bytes tables.now) }

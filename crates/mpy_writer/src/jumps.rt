@@ -13,7 +13,7 @@ use mpy_base::NoMemory;
 use mpy_tree::Item;
 
 /// Does the item name another?
-fn is_jump(item: &Item) -> bool
+pub(crate) fn is_jump(item: &Item) -> bool
     ensures { result ≡ specs.is_jump item.now }
 {
     matches!(item, Item::Jump(..) | Item::Unwind(..))

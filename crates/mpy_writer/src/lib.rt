@@ -10,6 +10,7 @@ mod jumps;
 mod layout;
 mod object;
 mod tables;
+mod wide;
 mod widths;
 
 pub use code::write_code;
@@ -17,3 +18,4 @@ pub use fault::WriteFault;
 pub use file::{code_law, write, write_law, write_texts};
 pub use object::write_constants;
 pub use tables::{Tables, use_text};
+pub use wide::{first_long, wide_law};

@@ -1,6 +1,6 @@
 use Rattle.std.proofs.Common.{◌≤◌, ◌++◌, ℕ, List, length, All, refl, sym, ap, ap₂, subst, ◌∙◌, arith}
 use Rattle.std.specs.List.{zip}
-use Rattle.mpy_base.specs.declared.limits.TheConstants.{MAX_CODE_BYTES}
+use Rattle.mpy_base.specs.declared.limits.TheConstants.{MAX_FILE_BYTES}
 use Rattle.mpy_tree.specs.bc_prelude.Lines.{Rises}
 use Rattle.mpy_tree.specs.Canonical.{changes}
 use Rattle.mpy_writer.proofs.Own.{a_start_each, starts_within, rises, is_big, made_own}
@@ -18,8 +18,8 @@ line_changes-requires-clause-short c =
     let few = c.if-len-gt-MAX_CODE_BYTES.false in
     let len = c.len.ensures in
     let size = c.args.layout.now.bytes.ok.0 in
-    subst (All (λ start. start ≤ MAX_CODE_BYTES)) (sym (c.deref.ensures.value ∙ c.requires.layout.starts))
-    (starts_within c.args.tables.now c.args.code.now c.args.layout.now.bytes.items c.requires.layout.bytes MAX_CODE_BYTES (omega (arith, few, len, size)))
+    subst (All (λ start. start ≤ MAX_FILE_BYTES)) (sym (c.deref.ensures.value ∙ c.requires.layout.starts))
+    (starts_within c.args.tables.now c.args.code.now c.args.layout.now.bytes.items c.requires.layout.bytes MAX_FILE_BYTES (omega (arith, few, len, size)))
 
 pub line_changes-requires-clause-a_line_each : goal.line_changes-requires-clause-a_line_each
 line_changes-requires-clause-a_line_each c =
