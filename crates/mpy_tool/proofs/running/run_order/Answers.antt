@@ -1,4 +1,4 @@
-use Rattle.std.proofs.Common.{◌≡◌, ℕ, List, [], Bool, Option, ap, sym, subst, ◌∙◌}
+use Rattle.std.proofs.Common.{◌≡◌, ℕ, List, [], Bool, Option, Result, ap, sym, subst, ◌∙◌}
 use Rattle.std.specs.Prelude.{◌||◌, slice_index_or}
 use Rattle.mpy_io.specs.Count.{Counts}
 use Rattle.mpy_io.specs.Files.{FileOf}
@@ -8,6 +8,7 @@ use Rattle.mpy_endings.specs.declared.ending.Ending.{Ending}
 use Rattle.mpy_endings.proofs.Statuses.{unsaved_ended}
 use Rattle.board_command.specs.command_files.Opened.{failed_in}
 use Rattle.stress_command.specs.run_commands.declared.ready.Ready.{Ready}
+use Rattle.stress_command.specs.run_commands.library_runs.Runs.{sight}
 use Rattle.stress_command.specs.run_commands.Run.{room_of, sight_in}
 use Rattle.stress_command.specs.run_commands.Save.{EndsRunTo, RunsTo, is_unwritten, place_to}
 use Rattle.stress_command.proofs.run_commands_lemmas.Suspending.{counts_to, ends_run_to, says_to}
@@ -57,6 +58,8 @@ returns-clause-files g c =
     let old = g.F.Folder.files c.args.outside.now.folder in
     let new = g.F.Folder.files c.run_to-ended.new.outside.folder in
     let went = c.run_to-ended.ensures.went in
-    let saved = saved_changes (saved_name words c.save_place-save.result) (λ r. r ≡ c.library_of-loaded.result) (room_of order) order.steps _ _ went.0 (g.F.Folder.files c.library_of-loaded.new.folder) new c.run_to-ended.result.ending went.1 in
+    let a = sight g.S.Sink.told g.P.Port.seen c.args.outside.now.out c.args.outside.now.ports in
+    let b = sight g.S.Sink.told g.P.Port.seen c.run_to-ended.new.outside.out c.run_to-ended.new.outside.ports in
+    let saved = saved_changes (saved_name words c.save_place-save.result) (λ (r : Result Ready Ending). r ≡ c.library_of-loaded.result) (room_of order) order.steps a b went.0 (g.F.Folder.files c.library_of-loaded.new.folder) new c.run_to-ended.result.ending went.1 in
     let here = subst (λ (f : Option FileOf). ChangesSaved (saved_name words c.save_place-save.result) f new) c.library_of-loaded.ensures.files saved in
     run_changes words order.save order.command old new c.requires.runs (subst (λ (s : Option ℕ). ChangesSaved (saved_name words s) old new) c.save_place-save.ensures here)

@@ -39,10 +39,16 @@ returns-in-None-clause-handed_on g c = λ s.
 pub returns-in-None-clause-unwritten : goal.returns-in-None-clause-unwritten
 returns-in-None-clause-unwritten g c =
     let went = c.run_loaded.ensures.went in
+    let old = sight g.S.Sink.told g.P.Port.seen c.args.outside.now.out c.args.outside.now.ports in
+    let new = sight g.S.Sink.told g.P.Port.seen c.run_loaded.new.out c.run_loaded.new.ports in
     let count = g.F.Folder.count c.args.outside.now.folder in
-    subst (λ (b : Bool). Counts count count b) (sym (runs_written _ _ _ _ _ went.0 c.run_loaded.result went.1)) refl
+    let none = runs_written (λ (r : Result Ready Ending). r ≡ c.args.loaded) (room_of c.args.order) c.args.order.steps old new went.0 c.run_loaded.result went.1 in
+    subst (λ (b : Bool). Counts count count b) (sym none) refl
 
 pub returns-in-None-clause-folder : goal.returns-in-None-clause-folder
 returns-in-None-clause-folder g c =
     let went = c.run_loaded.ensures.went in
-    or_false (failed_in c.args.loaded) (is_unwritten c.run_loaded.result) (is_folder_fault c.run_loaded.result) c.run_loaded.ensures.reads (runs_written _ _ _ _ _ went.0 c.run_loaded.result went.1)
+    let old = sight g.S.Sink.told g.P.Port.seen c.args.outside.now.out c.args.outside.now.ports in
+    let new = sight g.S.Sink.told g.P.Port.seen c.run_loaded.new.out c.run_loaded.new.ports in
+    let none = runs_written (λ (r : Result Ready Ending). r ≡ c.args.loaded) (room_of c.args.order) c.args.order.steps old new went.0 c.run_loaded.result went.1 in
+    or_false (failed_in c.args.loaded) (is_unwritten c.run_loaded.result) (is_folder_fault c.run_loaded.result) c.run_loaded.ensures.reads none
