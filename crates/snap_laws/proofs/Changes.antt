@@ -1,12 +1,12 @@
 -- Heaps that are changed alike.
-use Rattle.std.proofs.Common.{◌≡◌, ℕ, zero, suc, ◌+◌, ◌-◌, ◌<◌, ◌≤◌, List, [], ◌∷◌, ◌++◌, length, map, set, replicate, Option, Some, None, refl, sym, ap, subst, ◌∙◌, inl, inr, arith, length-append, get_or, get_or-set_same, get_or-set_other}
+use Rattle.std.proofs.Common.{◌≡◌, ℕ, zero, suc, ◌+◌, ◌-◌, ◌<◌, ◌≤◌, List, ◌∷◌, ◌++◌, length, set, replicate, Option, Some, None, refl, sym, ap, subst, ◌∙◌, inl, inr, arith, length-append, get_or-set_same, get_or-set_other}
 use Rattle.std.specs.Option.{option_map}
 use Rattle.std.proofs.lemmas.List.{get_or_past, get_or_append_left, get_or-append_right, length-set, length-map}
 use Rattle.std.proofs.lemmas.Bool.{cases_eq, cases_lt}
-use Rattle.bc_flow.specs.mpy_base.World.{Object, ListObject, TupleObject, TextObject, DictObject, FunctionObject, ExceptionObject, MethodObject, RangeObject, ModuleObject, object, with_object}
-use Rattle.bc_flow.specs.mpy_base.Weights.{used, more_cells, bytes_of, with_made, with_used}
-use Rattle.bc_flow.specs.mpy_base.Val.{Val, At}
-use Rattle.bc_flow.proofs.mpy_base_lemmas.Worlds.{object_nones}
+use Rattle.py_primitives.specs.mpy_base.World.{Object, ListObject, TupleObject, TextObject, DictObject, FunctionObject, ExceptionObject, MethodObject, RangeObject, ModuleObject, object, with_object}
+use Rattle.py_primitives.specs.mpy_base.Weights.{used, more_cells, bytes_of, with_made, with_used}
+use Rattle.py_primitives.specs.mpy_base.Val.{Val, At}
+use Rattle.py_primitives.proofs.mpy_base_lemmas.Worlds.{object_nones}
 use Rattle.py_primitives.specs.py_values.Shown.{PlainHeap}
 use Rattle.snap_laws.specs.Renamed.{Renaming, value, object_as, IsRenamed}
 

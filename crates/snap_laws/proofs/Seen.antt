@@ -1,19 +1,19 @@
 -- What a program sees is the same.
-use Rattle.std.proofs.Common.{◌≡◌, ℕ, zero, suc, Bool, true, false, cond, eqb, List, [], ◌∷◌, length, map, Option, Some, None, refl, sym, ap, ◌∙◌, subst}
+use Rattle.std.proofs.Common.{◌≡◌, ℕ, zero, suc, Bool, true, false, cond, List, [], ◌∷◌, length, map, Option, Some, None, refl, sym, ap, ◌∙◌}
 use Rattle.std.specs.Prelude.{nat_eq, bytes_eq}
 use Rattle.std.specs.Option.{option_map}
 use Rattle.std.proofs.lemmas.List.{length-map}
 use Rattle.std.proofs.lemmas.Bool.{eqb-true, eqb-false, eq-eqb, ne_eqb}
-use Rattle.bc_flow.specs.mpy_base.declared.limits.TheConstants.{MAX_WALK_DEPTH}
-use Rattle.bc_flow.specs.mpy_base.World.{Object, ListObject, TupleObject, TextObject, DictObject, FunctionObject, ExceptionObject, MethodObject, RangeObject, ModuleObject, object}
-use Rattle.bc_flow.specs.mpy_base.Val.{Val, Vals, Only, Then, Nil, Truth, Int, Str, Fixed, Empty, Built, At, vals}
+use Rattle.py_primitives.specs.mpy_base.declared.limits.TheConstants.{MAX_WALK_DEPTH}
+use Rattle.py_primitives.specs.mpy_base.World.{Object, ListObject, TupleObject, TextObject, DictObject, FunctionObject, ExceptionObject, MethodObject, RangeObject, ModuleObject, object}
+use Rattle.py_primitives.specs.mpy_base.Val.{Val, Vals, Only, Then, Nil, Truth, Int, Str, Fixed, Empty, Built, At, vals}
 use Rattle.py_primitives.specs.py_values.Shown.{PlainHeap, Shown, Nothing, Number, Text, Tuple, Items, Pairs, Range, Other, shown_object, shown, shown_truth, truth, is_empty}
-use Rattle.py_primitives.specs.py_values.Keys.{PlainKey, shown_key, key_of, is_same_key, has_key, value_of_key}
+use Rattle.py_primitives.specs.py_values.Keys.{shown_key, key_of, is_same_key, has_key, value_of_key}
 use Rattle.py_primitives.specs.py_values.Equality.{Walk, answers, if_so, is_same, all_equal, equal_items, equal_found, all_found, equal_pairs, equal_shown, equal_within, equal, visit}
 use Rattle.snap_laws.specs.Renamed.{Renaming, value, items_as, pair, object_as, shown_as, IsRenamed}
 
 module _ (r : Renaming) where
-  vals_as : (vs : Vals) → vals (items_as r vs) ≡ map (value r) (vals vs)
+  pub vals_as : (vs : Vals) → vals (items_as r vs) ≡ map (value r) (vals vs)
   vals_as (Only v) = refl
   vals_as (Then v vs) = ap (λ z. value r v ∷ z) (vals_as vs)
 
@@ -96,7 +96,7 @@ module _ (r : Renaming) where
         by_test true e = eq-eqb _ _ (ap r.to (eqb-true m n e)) ∙ sym e
         by_test false e = ne_eqb _ _ (λ f. eqb-false m n e (injective m n f)) ∙ sym e
 
-    same_as : (a b : Val) → is_same (value r a) (value r b) ≡ is_same a b
+    pub same_as : (a b : Val) → is_same (value r a) (value r b) ≡ is_same a b
     same_as Nil Nil = refl
     same_as (Built a) (Built b) = refl
     same_as (At m) (At n) = number_as m n
@@ -140,7 +140,7 @@ module _ (r : Renaming) where
       shown_equal a b (Range start stop step) (Range start' stop' step') = refl
       shown_equal a b _ _ = ap answers (same_as a b)
 
-    within : (depth : ℕ) (a b : Val) → equal_within k depth (value r a) (value r b) ≡ equal_within h depth a b
+    pub within : (depth : ℕ) (a b : Val) → equal_within k depth (value r a) (value r b) ≡ equal_within h depth a b
     within zero a b = refl
     within (suc depth) a b =
         ap visit (

@@ -2,10 +2,22 @@
 //! other numbers is seen the same.
 #![tactic(auto)]
 
+mod calls;
 mod flow;
 mod heaps;
+mod iterables;
+mod methods;
 mod operators;
+mod outputs;
+mod texts;
+mod uses;
 
+pub use calls::{calls_law, faults_law};
 pub use flow::{least_law, rooms_law};
 pub use heaps::{heap_law, sight_law};
-pub use operators::operator_law;
+pub use iterables::iterables_law;
+pub use methods::methods_law;
+pub use operators::{comparisons_law, operator_law, operators_law};
+pub use outputs::output_law;
+pub use texts::texts_law;
+pub use uses::{attributes_law, items_law};
