@@ -1,5 +1,5 @@
 -- The code of a text, and of a function.
-use Rattle.std.proofs.Common.{◌≡◌, ◌≤◌, ◌<◌, ℕ, suc, ◌+◌, Bool, true, false, List, [], ◌∷◌, length, map, Option, Some, None, refl, sym, ap, ◌∙◌, subst, arith, add-one}
+use Rattle.std.proofs.Common.{◌≡◌, ◌≤◌, ◌<◌, ℕ, suc, ◌+◌, Bool, true, false, List, [], ◌∷◌, ◌++◌, length, map, Option, Some, None, refl, sym, ap, ◌∙◌, subst, arith, add-one, append-nil}
 use Rattle.std.specs.Prelude.{Result, Ok, Err, IfOk, IfErr, OnOk, IfNone, IfSome, slice_get}
 use Rattle.mpy_base.specs.declared.source.SourceFault.{SourceFault}
 use Rattle.mpy_base.specs.declared.refused.Refused.{Refused}
@@ -26,7 +26,7 @@ use Rattle.emit_module.specs.declared.own.OwnCode.{OwnCode}
 use Rattle.emit_module.specs.declared.walk.Children.{Children}
 use Rattle.emit_module.specs.Counted.{HasLength, on_draft, on_tree, AreCounted, IsFine, IsBroken}
 use Rattle.emit_module.specs.Own.{IsTextOf, IsCounted, IsOwn, IsRefused, IsWritten}
-use Rattle.emit_module.specs.Walk.{Forest, size, planted, planted_in, text_at, IsTextCode, IsTextRefused, IsMadeCode, Grows, no_code, with_code, Breaks, here, inside, IsWalked, Walks, WalksAll, begun, BodyWalks, WalksBody, place_of, CodesText, CodesFunction, IsPut}
+use Rattle.emit_module.specs.Walk.{Forest, size, def_lines, planted, planted_in, text_at, IsTextCode, IsTextRefused, IsMadeCode, Grows, no_code, with_code, Breaks, here, inside, IsWalked, Walks, WalksAll, begun, BodyWalks, WalksBody, place_of, CodesText, CodesFunction, IsPut}
 use Rattle.emit_module.proofs.Limiting.{shallow, few_params}
 
 -- ---- a text
@@ -166,7 +166,7 @@ at_site : {text : Text} (line depth : ℕ) → IsFine (record { line = line; dep
 at_site {text = text} line depth h = subst (λ z. IsFine (record { line = line; depth = z }) text) (add-one depth) h
 
 one_function : {slots : List (List Name)} (a b inner : Children) (line : ℕ) (name : Name) (params : List Param) (body : List stmts.Stmt) (own : OwnCode)
-    → CodesFunction slots a line params body (Ok own) → WalksBody slots (plain_block body) a (Ok inner) → IsPut a b name params own inner
+    → CodesFunction slots a line params body (Ok own) → WalksBody slots (plain_block body) a (Ok inner) → IsPut a b line name params own inner
     → (source : Source) → source.level ≡ a.level → source.locals ≡ slots → (n : ℕ) → IsWalked source (planted_in line ((numbered name params (plain_block body)).make n)) a b
 one_function a b inner line name params body own codes walks put source l s n =
     let f : Function = record { name = name; params = map (λ (param : Param). param.name) params; given = count (defaults_of params); body = (plain_block body).make (suc n) } in
@@ -209,11 +209,12 @@ one_function a b inner line name params body own codes walks put source l s n =
       more = put.code ∷ [];
       codes = put.codes;
       next = next;
+      lines = put.lines ∙ ap (λ z. a.lines ++ line ∷ z) (w.lines ∙ sym (append-nil (def_lines forest)));
       grows = with_code made refl inner_grows no_code;
     }
 
 pub function_walked : {A : Type 0} {slots : List (List Name)} {a b inner : Children} {line : ℕ} (name : Name) (params : List Param) (body : List stmts.Stmt) (own : OwnCode) (v : A)
-    → CodesFunction slots a line params body (Ok own) → WalksBody slots (plain_block body) a (Ok inner) → IsPut a b name params own inner
+    → CodesFunction slots a line params body (Ok own) → WalksBody slots (plain_block body) a (Ok inner) → IsPut a b line name params own inner
     → WalksAll slots (λ n. planted_in line ((numbered name params (plain_block body)).make n)) a b (Ok v)
 function_walked {a = a} {b = b} {inner = inner} {line = line} name params body own v codes walks put = record { by = one_function a b inner line name params body own codes walks put }
 

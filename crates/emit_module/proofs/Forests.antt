@@ -13,7 +13,7 @@ use Rattle.tr_source.specs.py_meaning.Program.{Source}
 use Rattle.emit_stmt.proofs.emit_expr_lemmas.Rows.{drop_item}
 use Rattle.emit_module.specs.declared.walk.Children.{Children}
 use Rattle.emit_module.specs.Walk as w
-use Rattle.emit_module.specs.Walk.{Forest, bare, grow, beside, size, Grows, no_code, with_code, AreFine, Breaks, here, inside, behind, IsWalked, Walks, WalksAll, WalksFront}
+use Rattle.emit_module.specs.Walk.{Forest, bare, grow, beside, size, def_lines, Grows, no_code, with_code, AreFine, Breaks, here, inside, behind, IsWalked, Walks, WalksAll, WalksFront}
 
 -- ---- forests
 
@@ -28,6 +28,10 @@ beside_assoc (grow line f inner others) g h = ap (grow line f inner) (beside_ass
 pub size_beside : (f g : Forest) → size (beside f g) ≡ size f + size g
 size_beside bare g = omega arith
 size_beside (grow line f inner others) g = let e = size_beside others g in omega (arith, e)
+
+pub def_lines_on : (f g : Forest) → def_lines (beside f g) ≡ def_lines f ++ def_lines g
+def_lines_on bare g = refl
+def_lines_on (grow line f inner others) g = ap (λ z. line ∷ (def_lines inner ++ z)) (def_lines_on others g) ∙ ap (λ z. line ∷ z) (sym (append_assoc (def_lines inner) (def_lines others) (def_lines g)))
 
 -- ---- codes and faults side by side
 
@@ -55,7 +59,7 @@ breaks_right {source = source} {depth = depth} {n = n} (grow line f inner others
 -- ---- walks
 
 pub walked_none : (source : Source) (a : Children) → IsWalked source bare a a
-walked_none source a = record { level = refl; depth = refl; more = []; codes = sym (append-nil a.codes); next = omega arith; grows = no_code }
+walked_none source a = record { level = refl; depth = refl; more = []; codes = sym (append-nil a.codes); next = omega arith; lines = sym (append-nil a.lines); grows = no_code }
 
 grows_at : {source : Source} {depth next : ℕ} {g : Forest} {ds : List Code} (d n : ℕ) → depth ≡ d → next ≡ n → Grows source depth next g ds → Grows source d n g ds
 grows_at {source = source} {depth = depth} {g = g} {ds = ds} d n e h k = subst (λ z. Grows source z n g ds) e (subst (λ z. Grows source depth z g ds) h k)
@@ -67,6 +71,7 @@ walked_on {source = source} {f = f} {g = g} {a = a} {b = b} {c = c} x y = record
   more = x.more ++ y.more;
   codes = y.codes ∙ ap (λ z. z ++ y.more) x.codes ∙ append_assoc a.codes x.more y.more;
   next = omega (arith, x.next, y.next, size_beside f g);
+  lines = y.lines ∙ ap (λ z. z ++ def_lines g) x.lines ∙ append_assoc a.lines (def_lines f) (def_lines g) ∙ ap (λ z. a.lines ++ z) (sym (def_lines_on f g));
   grows = grows_on x.grows (grows_at a.depth (a.next + size f) x.depth x.next y.grows);
 }
 

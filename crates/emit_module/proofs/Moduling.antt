@@ -30,7 +30,7 @@ use Rattle.emit_module.specs.Module.{source_of, IsResolved, IsTranslated}
 use Rattle.emit_module.specs.Own.{IsTextOf, IsWritten}
 use Rattle.emit_module.specs.Walk.{Forest, planted, IsTextCode, IsTextRefused, CodesText, IsWalked, Walks, WalksAll, Breaks, IsModuleOf, top, TopWalks, WalksTop}
 use Rattle.emit_module.proofs.Forests.{fine_of}
-use Rattle.emit_module.proofs.Plants.{flat, sites_at, texts_at, lists, Lists, texts_are}
+use Rattle.emit_module.proofs.Plants.{flat, sites_at, sites_lines, texts_at, lists, Lists, texts_are}
 use Rattle.emit_module.proofs.Judging.{LengthLaw, within_is, fault_is, all_within, first_fault}
 use Rattle.emit_module.proofs.Trees.{Laws, AllNamed, IsAt, trees_of, are_trees, tree_tops, named_of, looked, stands_at, stand_all, have_states}
 
@@ -83,6 +83,12 @@ later_fault law {source = source} {fault = fault} numbered l d c b =
     first.later (own_within law source numbered l d c)
     (subst (λ z. FirstFault (sites 0 source.body) z fault) (sym (texts_of source))
     (subst (λ z. FirstFault z (texts_at source 0 (planted source.body)) fault) (sites_of source) (first_fault law (flat_counts numbered) b)))
+
+-- the lines of the sites
+pub lines_are : {source : Source} {children : Children} (lines : List ℕ) → lines ≡ children.lines → IsWalked source (planted source.body) (top source.level) children
+    → 1 ∷ lines ≡ map (λ (s : Site). s.line) (source_sites source)
+lines_are {source = source} lines same walked =
+    ap (λ z. 1 ∷ z) (same ∙ walked.lines ∙ sym (sites_lines 0 (planted source.body)) ∙ ap (map (λ (s : Site). s.line)) (sites_of source))
 
 -- ---- the translation
 

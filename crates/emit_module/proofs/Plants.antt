@@ -1,11 +1,12 @@
 -- The functions of a text as a forest and as lists.
-use Rattle.std.proofs.Common.{◌≡◌, ℕ, zero, suc, ◌+◌, List, [], ◌∷◌, ◌++◌, length, drop, refl, sym, ap, ap₂, ◌∙◌, arith, append_assoc, append-nil, length-append}
+use Rattle.std.proofs.Common.{◌≡◌, ℕ, zero, suc, ◌+◌, List, [], ◌∷◌, ◌++◌, length, map, drop, refl, sym, ap, ap₂, ◌∙◌, arith, append_assoc, append-nil, length-append}
 use Rattle.std.specs.Prelude.{slice_get}
+use Rattle.std.proofs.lemmas.List.{map-append}
 use Rattle.tr_source.specs.py_meaning.Tree.{Name, count, Stmt, If, While, For, Try, Finally, TryFinally, Def, Block, End, Next, Branches, Else, Case, Handlers, NoHandler, Any, On, OnAs, Function, functions, functions_in, functions_of, functions_by}
 use Rattle.tr_source.specs.py_meaning.Program.{Source, Text, or_none, function_text, function_texts}
 use Rattle.emit_stmt.specs.emit_draft.Children.{sizes, sizes_in, sizes_of, sizes_by}
 use Rattle.emit_module.specs.First.{Site, sites, sites_in, sites_of, sites_by}
-use Rattle.emit_module.specs.Walk.{Forest, bare, grow, beside, size, planted, planted_in, planted_of, planted_by, text_at}
+use Rattle.emit_module.specs.Walk.{Forest, bare, grow, beside, size, def_lines, planted, planted_in, planted_of, planted_by, text_at}
 
 abbrev pub flat : Forest → List Function
 flat bare = []
@@ -42,6 +43,11 @@ sites_on depth bare g = refl
 sites_on depth (grow line f inner others) g =
     let s : Site = record { line = line; depth = suc depth } in
     ap (λ z. s ∷ (sites_at (suc depth) inner ++ z)) (sites_on depth others g) ∙ ap (λ z. s ∷ z) (sym (append_assoc (sites_at (suc depth) inner) (sites_at depth others) (sites_at depth g)))
+
+pub sites_lines : (depth : ℕ) (f : Forest) → map (λ (s : Site). s.line) (sites_at depth f) ≡ def_lines f
+sites_lines depth bare = refl
+sites_lines depth (grow line f inner others) =
+    ap (λ z. line ∷ z) (map-append (λ (s : Site). s.line) (sites_at (suc depth) inner) (sites_at depth others) ∙ ap₂ (λ x y. x ++ y) (sites_lines (suc depth) inner) (sites_lines depth others))
 
 -- the forest has these functions, these sizes of its own ones, and these sites
 pub record Lists (f : Forest) (fs : List Function) (ss : List ℕ) (ps : ℕ → List Site) : Type 0 where

@@ -43,6 +43,11 @@ abbrev pub size : Forest → ℕ
 size bare = 0
 size (grow line f inner others) = suc (size inner + size others)
 
+-- the lines of their `def`s
+abbrev pub def_lines : Forest → List ℕ
+def_lines bare = []
+def_lines (grow line f inner others) = line ∷ (def_lines inner ++ def_lines others)
+
 abbrev mutual
   pub planted : Block → Forest
   planted End = bare
@@ -143,6 +148,7 @@ pub record IsWalked (source : Source) (forest : Forest) (a b : Children) : Type 
   pub more : List Code
   pub codes : b.codes ≡ a.codes ++ more
   pub next : b.next ≡ a.next + size forest
+  pub lines : b.lines ≡ a.lines ++ def_lines forest
   pub grows : Grows source a.depth a.next forest more
 
 -- or the first of them that passes a limit has this fault, or memory wasn't found
@@ -176,7 +182,7 @@ front_defs (branch ∷ branches) = (plain_branch branch).defs + front_defs branc
 
 -- where the codes of the functions in the next one begin
 abbrev pub begun : Children → Children
-begun around = record { level = around.level; depth = around.depth + 1; next = around.next + 1; codes = [] }
+begun around = record { level = around.level; depth = around.depth + 1; next = around.next + 1; codes = []; lines = [] }
 
 -- what a walk over a function's body comes to
 abbrev pub BodyWalks : Source → Forest → (around : Children) → Result Children (Refused SourceFault) → Type 0
@@ -216,13 +222,14 @@ pub record IsHeadOf (name : Name) (params : List Param) (n_state n_exc : ℕ) (h
   pub slots : head.n_state ≡ n_state
   pub entries : head.n_exc ≡ n_exc
 
--- the code of the next function stands behind the others, with the codes of those in it
-pub record IsPut (a b : Children) (name : Name) (params : List Param) (own : OwnCode) (inner : Children) : Type 0 where
+-- the code of the next function, in that line, stands behind the others, with the codes of those in it
+pub record IsPut (a b : Children) (line : ℕ) (name : Name) (params : List Param) (own : OwnCode) (inner : Children) : Type 0 where
   pub level : b.level ≡ a.level
   pub depth : b.depth ≡ a.depth
   pub next : b.next ≡ inner.next
   pub code : Code
   pub codes : b.codes ≡ a.codes ++ code ∷ []
+  pub lines : b.lines ≡ a.lines ++ line ∷ inner.lines
   pub head : CodeHead
   pub head_is : IsHeadOf name params own.n_state own.n_exc head
   pub code_is : IsCodeOf head own.lines inner.codes code
@@ -231,7 +238,7 @@ pub record IsPut (a b : Children) (name : Name) (params : List Param) (own : Own
 
 -- where the walk over a source begins
 abbrev pub top : (level : ℕ) → Children
-top level = record { level = level; depth = 0; next = 0; codes = [] }
+top level = record { level = level; depth = 0; next = 0; codes = []; lines = [] }
 
 -- what a walk over a source comes to
 abbrev pub TopWalks : (level : ℕ) → Source → Forest → Result Children (Refused SourceFault) → Type 0

@@ -1,13 +1,13 @@
 //! The module of a source.
 
-ghost use Rattle.std.specs.Prelude.{◌≡◌, [], ◌<◌, ◌^◌, ℕ, List, Err, IfOk, IfErr, ◌⊎◌};
+ghost use Rattle.std.specs.Prelude.{◌≡◌, [], ◌∷◌, ◌<◌, ◌^◌, ℕ, List, map, Err, IfOk, IfErr, ◌⊎◌};
 ghost use Rattle.mpy_base.specs.declared.refused.Refused.TheVariants as refused;
 ghost use Rattle.mpy_base.specs.declared.limits.TheConstants.{MAX_DEPTH};
 ghost use Rattle.mpy_base.specs.declared.source.SourceFault.{SourceFault as Fault};
 ghost use Rattle.mpy_writer.specs.Writable.{IsShallow};
 ghost use Rattle.tr_source.specs.py_source.Source.{IsAccepted};
 ghost use Rattle.emit_stmt.specs.Parts.{plain_block};
-ghost use Rattle.emit_module.specs.First.{AreWithin, IsFirstFault};
+ghost use Rattle.emit_module.specs.First.{AreWithin, IsFirstFault, source_sites};
 ghost use Rattle.emit_module.specs.Module.{source_of, IsTranslated};
 ghost use Rattle.emit_module.specs.Walk.{WalksTop, IsModuleOf};
 
@@ -41,11 +41,19 @@ fn functions(
         depth: 0,
         next: 0,
         codes: Items::new(alloc),
+        lines: Items::new(alloc),
     };
     match emit_defs(alloc, slots, &mut children, body) {
         Ok(()) => Ok(children),
         Err(refusal) => Err(refusal),
     }
+}
+
+/// A module, with the line of the `def` of each code but its own, in preorder.
+#[derive(Drop)]
+pub struct Emitted {
+    pub whole: ModuleCode,
+    pub lines: Items<u32>,
 }
 
 /// The module of its parts.
@@ -54,8 +62,9 @@ fn module_of(
     file: &[u8],
     own: OwnCode,
     children: Children,
-) -> Result<ModuleCode, NoMemory>
-    ensures { IfOk result (λ whole. IsModuleOf file.now own children whole) }
+) -> Result<Emitted, NoMemory>
+    ensures whole { IfOk result (λ emitted. IsModuleOf file.now own children emitted.whole) }
+    ensures lines { IfOk result (λ emitted. emitted.lines ≡ children.lines) }
 {
     let source = Text::new(alloc, file)?;
     let head = CodeHead {
@@ -65,24 +74,31 @@ fn module_of(
         n_state: own.n_state,
         n_exc: own.n_exc,
     };
-    let code = code_of(head, own.lines, children.codes);
-    Ok(ModuleCode { source, code })
+    let Children { codes, lines, .. } = children;
+    let code = code_of(head, own.lines, codes);
+    Ok(Emitted {
+        whole: ModuleCode { source, code },
+        lines,
+    })
 }
 
-/// The module of an accepted source at a level, under its stored name, or the first fault of its code. The tree of the
+/// The module of an accepted source at a level, under its stored name, with its lines, or the first fault of its code. The tree of the
 /// source and the drafts of its code are walked a few times, and the recursion is as deep as the tree nests.
 pub fn emit(
     alloc: Global,
     level: u8,
     file: &[u8],
     accepted: &Accepted,
-) -> Result<ModuleCode, Refused<SourceFault>>
+) -> Result<Emitted, Refused<SourceFault>>
     requires { (source : List ℕ) × IsAccepted level source accepted.now }
 
     // The module translates the source, of which no text passes a limit, and its codes nest no deeper than a file's do.
-    ensures translates { IfOk result (λ whole. IsTranslated (source_of file.now level accepted.now.tree) whole) }
-    ensures within { IfOk result (λ whole. AreWithin (source_of file.now level accepted.now.tree)) }
-    ensures shallow { IfOk result (λ whole. IsShallow MAX_DEPTH whole.code) }
+    ensures translates { IfOk result (λ emitted. IsTranslated (source_of file.now level accepted.now.tree) emitted.whole) }
+    ensures within { IfOk result (λ emitted. AreWithin (source_of file.now level accepted.now.tree)) }
+    ensures shallow { IfOk result (λ emitted. IsShallow MAX_DEPTH emitted.whole.code) }
+
+    // The module's own code stands in line 1, and the others in the lines of their `def`s.
+    ensures lines { IfOk result (λ emitted. 1 ∷ emitted.lines ≡ map (λ site. site.line) (source_sites (source_of file.now level accepted.now.tree))) }
     ensures only { AreWithin (source_of file.now level accepted.now.tree) → IfErr result (λ refusal. refusal ≡ refused.NoMemory) }
 
     // The fault is that of the first text that passes one, and where one does there is no module.

@@ -1,6 +1,6 @@
 //! The codes of the functions in a text.
 
-ghost use Rattle.std.specs.Prelude.{◌≡◌, ◌+◌, ◌^◌, ◌<◌, ◌≤◌, ℕ, [], length, Some, slice_get, OnOk, IfOk};
+ghost use Rattle.std.specs.Prelude.{◌≡◌, ◌+◌, ◌^◌, ◌<◌, ◌≤◌, ◌∷◌, ◌++◌, ℕ, [], length, Some, slice_get, OnOk, IfOk};
 ghost use Rattle.py_tree.specs.declared.stmt.Stmt.{out-Stmt};
 ghost use Rattle.tr_source.specs.py_meaning.Plain.{numbered};
 ghost use Rattle.tr_source.specs.py_meaning.Program.{Text as TextOf, or_none};
@@ -31,6 +31,8 @@ pub(crate) struct Children {
     /// The number of the next function of their source, from 0 on.
     pub(crate) next: u32,
     pub(crate) codes: Items<Code>,
+    /// The line of the `def` of each code, and of each code in it, in preorder.
+    pub(crate) lines: Items<u32>,
 }
 
 /// Adds the codes of the functions that the block defines itself, each with those in it.
@@ -193,7 +195,7 @@ fn emit_function(
         Err(refusal) => return Err(refusal),
     };
     match emit_body(alloc, slots, children, body) {
-        Ok(inner) => match put_code(alloc, children, name, params, own, inner) {
+        Ok(inner) => match put_code(alloc, children, line, name, params, own, inner) {
             Ok(()) => Ok(()),
             Err(NoMemory) => Err(Refused::NoMemory),
         },
@@ -219,6 +221,7 @@ fn emit_body(
         depth: around.depth + 1,
         next: around.next + 1,
         codes: Items::new(alloc),
+        lines: Items::new(alloc),
     };
     match emit_defs(alloc, slots, &mut inner, body) {
         Ok(()) => Ok(inner),
@@ -275,20 +278,39 @@ fn function_code(
     text_code(alloc, &place, scope, body)
 }
 
-/// Adds the code of the next function, with the codes of those in it.
+/// Adds the line of a function, and behind it those of the functions in it.
+fn add_lines(lines: &mut Items<u32>, line: u32, inner: &[u32]) -> Result<(), NoMemory>
+    ensures { OnOk result (lines.new ≡ lines.old ++ line ∷ inner.now) }
+{
+    lines.push(line)?;
+    for each in inner {
+        lines.push(*each)?;
+    }
+    Ok(())
+}
+
+/// Adds the code of the next function, whose `def` stands in the line, with the codes of those in it.
 fn put_code(
     alloc: Global,
     children: &mut Children,
+    line: u32,
     name: &[u8],
     params: &[Param],
     own: OwnCode,
     inner: Children,
 ) -> Result<(), NoMemory>
     requires { length params.now ≤ 255 }
-    ensures { OnOk result (IsPut children.old children.new name.now params.now own inner) }
+    ensures { OnOk result (IsPut children.old children.new line name.now params.now own inner) }
 {
+    let Children {
+        next,
+        codes,
+        lines,
+        ..
+    } = inner;
     let head = head_of(alloc, name, params, own.n_state, own.n_exc)?;
-    children.next = inner.next;
-    children.codes.push(code_of(head, own.lines, inner.codes))?;
+    add_lines(&mut children.lines, line, lines.as_slice())?;
+    children.next = next;
+    children.codes.push(code_of(head, own.lines, codes))?;
     Ok(())
 }

@@ -1,5 +1,5 @@
 -- Each code of a translation may be written.
-use Rattle.std.proofs.Common.{◌≡◌, ℕ, suc, ◌+◌, ◌<◌, ◌≤◌, ◌^◌, Bool, true, false, List, [], ◌∷◌, length, map, Some, refl, sym, ap, subst, ◌∙◌, arith, slice_get, All}
+use Rattle.std.proofs.Common.{◌≡◌, ℕ, suc, ◌+◌, ◌<◌, ◌≤◌, ◌^◌, Bool, true, false, List, [], ◌∷◌, length, map, Some, refl, sym, ap, subst, ◌∙◌, arith, slice_get, get_or, All}
 use Rattle.std.specs.Prelude.{nat_eq, if◌then◌else◌}
 use Rattle.std.specs.List.{list_all, AllByRecursion}
 use Rattle.std.proofs.lemmas.List.{length-map}
@@ -7,7 +7,13 @@ use Rattle.std.proofs.lemmas.List.Elements.{All-from_recursion}
 use Rattle.emit_module.specs.bc_machine.bc_ops.Table.{form_of, name_form, number_form, jump_form, plain_form, short_form}
 use Rattle.mpy_writer.specs.mpy_tree.declared.module.Code.{Code as Made, out-Code}
 use Rattle.mpy_writer.specs.mpy_tree.Resolved.{ResolvedLine, Body, resolved_item, IsBodyOf}
+use Rattle.mpy_writer.specs.mpy_tree.declared.module.Item.TheVariants as items
+use Rattle.mpy_writer.specs.bc_labels.Choice.{IsTooFar}
+use Rattle.mpy_writer.specs.declared.tables.Tables.{Tables}
+use Rattle.mpy_writer.specs.File.{labelled}
+use Rattle.mpy_writer.specs.Tables.{TablesFit}
 use Rattle.mpy_writer.specs.Writable.{IsText, IsSoundItem, NeverFall, IsSoundCode}
+use Rattle.mpy_writer.proofs.Near.{GoesAhead, none_far}
 use Rattle.emit_module.specs.py_meaning.Tree.{Name}
 use Rattle.emit_module.specs.py_meaning.Program.{Text}
 use Rattle.emit_module.specs.bc_machine.Library.{Code, Line, code_of, item_of, line_of}
@@ -21,7 +27,8 @@ use Rattle.emit_module.specs.emit_measures.Wide.{wide_length}
 use Rattle.emit_module.specs.emit_measures.Stands.{IsCodeOf}
 use Rattle.emit_module.specs.tr_source.Spelled.{IsAscii, AllAscii, BlockSpelled}
 use Rattle.mpy_compile.specs.Texts.{text_fits, code_fits}
-use Rattle.mpy_compile.proofs.Wells.{IsWell, Kept}
+use Rattle.mpy_compile.proofs.Wells.{IsWell, IsAhead, Kept}
+use Rattle.mpy_compile.proofs.Near.{sizes_few, item_at, goes_ahead}
 use Rattle.mpy_compile.proofs.Regions.{Region, Fine, joined, behind}
 use Rattle.mpy_compile.proofs.Stmts.{b_own}
 use Rattle.mpy_compile.proofs.Lengths.{own_few, no_more_lines}
@@ -107,11 +114,29 @@ module _ (law : LengthsLaw) (all : List Code) (body : Body) (numbers : List ℕ)
       let lines = length-map body.lines (line_of size) in
       whole.each (shown_one (nat_eq c.level 3) f.known.first f.known.from_one) i (line_of size x) (omega arith) (omega (arith, within, long, lines)) (found_line size body.lines i x e)
 
+  is_ahead : (i : ℕ) (x : ResolvedLine) → slice_get body.lines i ≡ Some x → IsAhead i (item_of size x.item)
+  is_ahead i x e = (fine i x e).ahead
+
   good : (i : ℕ) (x : ResolvedLine) → slice_get body.lines i ≡ Some x → IsWell (item_of size x.item) × IsInside size (item_of size x.item)
   good i x e = ((fine i x e).well, (kept i (line_of size x) (found_line size body.lines i x e)).target)
 
   rise : (i : ℕ) (x : ResolvedLine) → slice_get body.lines i ≡ Some x → front 1 body.lines i ≤ x.line
   rise i x e = let up = (fine i x e).up in let same = front_is size body.lines i in omega (arith, up, same)
+
+  -- no jump is too far
+  pub code_near : (tables : Tables) → TablesFit tables → (made : Made) → IsBodyOf made body → IsTooFar (labelled tables made) → ⊥
+  code_near tables fit made is =
+      let instrs = (out-Code made).instrs in
+      let bytes_few = bytes in
+      let most = sizes_few size body.n_state count small_state few_children tables fit body.lines instrs is.instrs (λ i x e. ((fine i x e).well, kept i (line_of size x) (found_line size body.lines i x e))) in
+      let count_is : size ≡ length instrs = omega (arith, ap length is.instrs, length-map body.lines item_in, length-map instrs resolved_item) in
+      none_far tables instrs (omega (arith, most, bytes_few))
+      (λ p lt.
+      let x = item_at body.lines instrs is.instrs p lt in
+      subst (λ (n : ℕ). GoesAhead n p (get_or instrs p (items.Unwind 0 0))) count_is
+      (goes_ahead size p (get_or instrs p (items.Unwind 0 0))
+      (subst (λ r. IsInside size (item_of size r)) x.same (good p x.line x.here).1)
+      (subst (λ r. IsAhead p (item_of size r)) x.same (is_ahead p x.line x.here))))
 
   texts_are : (names : List Name) → AllAscii names → list_all text_fits names ≡ true → AllByRecursion IsText names
   texts_are [] a e = tt

@@ -60,10 +60,10 @@ item_sound size few (items.Object object) w i e = object_fine object w e
 item_sound size few (items.Jump op position) w i e = (w, record { within = i; small = omega (arith, i, few) })
 item_sound size few (items.Unwind position byte) w i e = record { within = i; small = omega (arith, i, few) }
 
-head_is : (x y : Resolved) (xs ys : List Resolved) → x ∷ xs ≡ y ∷ ys → x ≡ y
+pub head_is : (x y : Resolved) (xs ys : List Resolved) → x ∷ xs ≡ y ∷ ys → x ≡ y
 head_is x y xs ys e = cc
 
-tail_is : (x y : Resolved) (xs ys : List Resolved) → x ∷ xs ≡ y ∷ ys → xs ≡ ys
+pub tail_is : (x y : Resolved) (xs ys : List Resolved) → x ∷ xs ≡ y ∷ ys → xs ≡ ys
 tail_is x y xs ys e = cc
 
 abbrev pub item_in : ResolvedLine → Resolved

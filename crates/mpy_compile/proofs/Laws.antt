@@ -1,9 +1,9 @@
 -- A source compiles to one module, or has one first fault.
-use Rattle.std.proofs.Common.{◌≡◌, inl, inr, ℕ, true, false, List, sym, subst, ◌∙◌}
+use Rattle.std.proofs.Common.{◌≡◌, inl, inr, ℕ, List, Some, slice_get, sym, ap, ap₂, subst, ◌∙◌}
 use Rattle.mpy_base.specs.declared.source.SourceFault.{SourceFault}
 use Rattle.mpy_writer.specs.mpy_tree.declared.module.ModuleCode.{ModuleCode}
 use Rattle.mpy_writer.specs.File.{IsWritten}
-use Rattle.mpy_compile.specs.Texts.{module_fits}
+use Rattle.mpy_writer.specs.Wide.{PassesAt, FitsWide}
 use Rattle.emit_module.specs.py_tree.declared.stmt.Module.{Module}
 use Rattle.emit_module.specs.py_tree.Formed.{IsFormed}
 use Rattle.emit_measures.specs.py_scopes.Scopes.{IsFaultless}
@@ -11,9 +11,9 @@ use Rattle.emit_module.specs.py_source.declared.source.Accepted.{Accepted}
 use Rattle.emit_module.specs.py_source.Source as sources
 use Rattle.emit_module.specs.py_meaning.Program.{Source}
 use Rattle.emit_module.specs.tr_source.Accepted.{IsAccepted}
-use Rattle.emit_module.specs.First.{AreWithin, IsFirstFault}
+use Rattle.emit_module.specs.First.{Site, source_sites, AreWithin, IsFirstFault}
 use Rattle.emit_module.specs.Module.{source_of, IsTranslated}
-use Rattle.mpy_compile.specs.Compiled.{IsFileOf, IsFileFault, IsCompiled, CompilesTo, HasCodeFault, IsFault}
+use Rattle.mpy_compile.specs.Compiled.{IsCompiled, CompilesTo, HasCodeFault, HasLongCode, IsFault}
 
 -- what the crates below say
 pub record Below : Type 0 where
@@ -27,6 +27,8 @@ pub record Below : Type 0 where
   pub one_first : (source : Source) (f g : SourceFault) → IsFirstFault source f → IsFirstFault source g → f ≡ g
   pub none_first : (source : Source) (fault : SourceFault) → AreWithin source → IsFirstFault source fault → ⊥
   pub one_file : (m : ModuleCode) (a b : List ℕ) → IsWritten m a → IsWritten m b → a ≡ b
+  pub one_place : (m : ModuleCode) (i j : ℕ) → PassesAt m i → PassesAt m j → i ≡ j
+  pub none_long : (m : ModuleCode) (n : ℕ) → PassesAt m n → FitsWide m → ⊥
 
 module _ (b : Below) (level : ℕ) (source stored : List ℕ) where
   abbrev of : Accepted → Source
@@ -52,16 +54,26 @@ module _ (b : Below) (level : ℕ) (source stored : List ℕ) where
   no_source_fault : {P : Type 0} (accepted : Accepted) (fault : SourceFault) → sources.IsAccepted level source accepted → sources.IsFirstFault level source fault → P
   no_source_fault accepted fault p q = absurd (b.not_both level source accepted fault p q)
 
-  clash : {P : Type 0} (m : ModuleCode) → module_fits m ≡ true → module_fits m ≡ false → P
-  clash m e f = let g : true ≡ false = sym e ∙ f in cc
+  same_site : (x y : Site) → Some x ≡ Some y → x.line ≡ y.line
+  same_site x y e = cc
 
-  no_file_fault : {P : Type 0} (m : ModuleCode) (bytes : List ℕ) (fault : SourceFault) → IsFileOf m bytes → IsFileFault m fault → P
-  no_file_fault m bytes fault p q = elim q.past [ inl long ↦ clash m p.fits long | inr past ↦ absurd (p.within past.0 past.1) ]
+  same_fault : (f g : SourceFault) → f.code ≡ g.code → f.line ≡ g.line → f.word ≡ g.word → f ≡ g
+  same_fault f g code line word =
+      ap₂ (λ c l. record { code = c; line = l; word = f.word }) code line ∙ ap (λ w. record { code = g.code; line = g.line; word = w }) word
+
+  one_long : (f g : SourceFault) → HasLongCode level source stored f → HasLongCode level source stored g → f ≡ g
+  one_long f g p q =
+      let whole = one p.whole q.whole p.compiled q.compiled in
+      let at = b.one_place q.whole p.at q.at (subst (λ (m : ModuleCode). PassesAt m p.at) whole p.passes) q.passes in
+      let accepted = b.one level source p.compiled.accepted q.compiled.accepted p.compiled.is q.compiled.is in
+      let found : Some p.site ≡ Some q.site =
+      sym p.stands ∙ ap₂ (λ (a : Accepted) (k : ℕ). slice_get (source_sites (of a)) k) accepted at ∙ q.stands in
+      same_fault f g (p.code ∙ sym q.code) (p.line ∙ same_site p.site q.site found ∙ sym q.line) (p.word ∙ sym q.word)
 
   pub not_both : (bytes : List ℕ) (fault : SourceFault) → CompilesTo level source stored bytes → IsFault level source stored fault → ⊥
   not_both bytes fault p (inl q) = no_source_fault p.compiled.accepted fault p.compiled.is q
   not_both bytes fault p (inr (inl q)) = no_code_fault p.whole fault p.compiled q
-  not_both bytes fault p (inr (inr q)) = no_file_fault p.whole bytes fault p.file (subst (λ (m : ModuleCode). IsFileFault m fault) (one q.whole p.whole q.compiled p.compiled) q.file)
+  not_both bytes fault p (inr (inr q)) = b.none_long p.whole q.at (subst (λ (m : ModuleCode). PassesAt m q.at) (one q.whole p.whole q.compiled p.compiled) q.passes) p.file.wide
 
   pub one_fault : (f g : SourceFault) → IsFault level source stored f → IsFault level source stored g → f ≡ g
   one_fault f g (inl p) (inl q) = b.one_fault level source f g p q
@@ -74,4 +86,4 @@ module _ (b : Below) (level : ℕ) (source stored : List ℕ) where
   one_fault f g (inr (inl p)) (inr (inr q)) = no_code_fault q.whole f q.compiled p
   one_fault f g (inr (inr p)) (inl q) = no_source_fault p.compiled.accepted g p.compiled.is q
   one_fault f g (inr (inr p)) (inr (inl q)) = no_code_fault p.whole g p.compiled q
-  one_fault f g (inr (inr p)) (inr (inr q)) = p.file.is ∙ sym q.file.is
+  one_fault f g (inr (inr p)) (inr (inr q)) = one_long f g p q

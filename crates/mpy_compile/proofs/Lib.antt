@@ -6,8 +6,10 @@ pub mod Facts
 pub mod Items
 pub mod Laws
 pub mod Lengths
+pub mod Longs
 pub mod Modules
 pub mod Names
+pub mod Near
 pub mod Nested
 pub mod Outcomes
 pub mod Regions

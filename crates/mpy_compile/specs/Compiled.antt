@@ -1,38 +1,36 @@
 -- What a source compiles to, and the first fault of one that compiles to nothing.
-use Rattle.std.specs.Prelude.{◌≡◌, ◌⊎◌, ℕ, false, List, Result, Ok, Err, Vec}
+use Rattle.std.specs.Prelude.{◌≡◌, ◌⊎◌, ℕ, List, [], Some, slice_get, Result, Ok, Err, Vec}
 use Rattle.std.specs.declared.alloc.Global.{Global}
 use Rattle.mpy_base.specs.declared.refused.Refused.{Refused}
 use Rattle.mpy_base.specs.declared.refused.Refused.TheVariants as refused
 use Rattle.mpy_base.specs.declared.source.SourceFault.{SourceFault}
-use Rattle.mpy_base.specs.Fault.{too_long}
+use Rattle.mpy_base.specs.declared.source.SourceCode.TheVariants.{TooLong}
 use Rattle.mpy_writer.specs.mpy_tree.declared.module.ModuleCode.{ModuleCode}
 use Rattle.mpy_writer.specs.mpy_tree.Canonical.{Canonical}
 use Rattle.mpy_writer.specs.mpy_tree.FirstUse.{InFirstUse}
 use Rattle.mpy_writer.specs.mpy_tree.Resolved.{ReadsAs}
 use Rattle.mpy_writer.specs.declared.fault.WriteFault.{WriteFault}
 use Rattle.mpy_writer.specs.File.{IsWritten, FirstFault}
-use Rattle.mpy_compile.specs.Texts.{module_fits, TextsFit}
+use Rattle.mpy_writer.specs.Wide.{PassesAt, FitsWide}
+use Rattle.mpy_compile.specs.Texts.{TextsFit}
 use Rattle.emit_module.specs.py_source.declared.source.Accepted.{Accepted}
 use Rattle.emit_module.specs.py_source.Source as sources
-use Rattle.emit_module.specs.First.{AreWithin}
+use Rattle.emit_module.specs.First.{Site, source_sites, AreWithin}
 use Rattle.emit_module.specs.First as texts
 use Rattle.emit_module.specs.Module.{source_of, IsTranslated}
 
 -- ---- the file of a module
 
--- the bytes are the file of the module, of which no text is longer than a file and which passes no limit of files
+-- the bytes are the file of the module, of which no text is longer than a file and which passes no limit of files, with all jumps
+-- wide nor as it is
 pub record IsFileOf (whole : ModuleCode) (bytes : List ℕ) : Type 0 where
   pub reads : ReadsAs bytes whole
   pub canonical : Canonical bytes
   pub first_use : InFirstUse bytes
   pub written : IsWritten whole bytes
   pub fits : TextsFit whole
+  pub wide : FitsWide whole
   pub within : (fault : WriteFault) → FirstFault whole fault → ⊥
-
--- a text of the module is longer than a file, or its file passes a limit of files
-pub record IsFileFault (whole : ModuleCode) (fault : SourceFault) : Type 0 where
-  pub past : (module_fits whole ≡ false) ⊎ ((refused : WriteFault) × FirstFault whole refused)
-  pub is : fault ≡ too_long
 
 -- ---- sources
 
@@ -57,15 +55,22 @@ pub record HasCodeFault (level : ℕ) (source stored : List ℕ) (fault : Source
   pub is : sources.IsAccepted level source accepted
   pub first : texts.IsFirstFault (source_of stored level accepted.tree) fault
 
--- the file of the source's module passes a limit
-pub record HasFileFault (level : ℕ) (source stored : List ℕ) (fault : SourceFault) : Type 0 where
+-- a code of the source's module is too long with all jumps wide, in the line of the first such code's `def`; the module's own code
+-- is so, too, where its file is
+pub record HasLongCode (level : ℕ) (source stored : List ℕ) (fault : SourceFault) : Type 0 where
   pub whole : ModuleCode
   pub compiled : IsCompiled level source stored whole
-  pub file : IsFileFault whole fault
+  pub at : ℕ
+  pub passes : PassesAt whole at
+  pub site : Site
+  pub stands : slice_get (source_sites (source_of stored level compiled.accepted.tree)) at ≡ Some site
+  pub code : fault.code ≡ TooLong
+  pub line : fault.line ≡ site.line
+  pub word : fault.word ≡ []
 
--- the source is judged before its code, and the code of its texts before the file as a whole
+-- the source is judged before its code, and each of its texts before the module as a whole
 abbrev pub IsFault : (level : ℕ) (source stored : List ℕ) → SourceFault → Type 0
-IsFault level source stored fault = sources.IsFirstFault level source fault ⊎ (HasCodeFault level source stored fault ⊎ HasFileFault level source stored fault)
+IsFault level source stored fault = sources.IsFirstFault level source fault ⊎ (HasCodeFault level source stored fault ⊎ HasLongCode level source stored fault)
 
 -- why a source has no file: its first fault; want of memory says nothing
 abbrev pub Refuses : (level : ℕ) (source stored : List ℕ) → Refused SourceFault → Type 0

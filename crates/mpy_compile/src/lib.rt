@@ -11,4 +11,4 @@ pub use emit_module::resolved_law;
 pub use fits::texts_fit;
 pub use py_source::asked_law;
 pub use within::{module_law, within_law};
-pub use written::written_law;
+pub use written::{near_law, written_law};

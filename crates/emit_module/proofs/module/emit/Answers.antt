@@ -7,7 +7,7 @@ use Rattle.emit_module.specs.Module.{source_of}
 use Rattle.emit_module.proofs.Fewer.{tree_few}
 use Rattle.emit_module.proofs.Judging.{no_fault, that_fault}
 use Rattle.emit_module.proofs.Trees.{Laws, all_named}
-use Rattle.emit_module.proofs.Moduling.{Parts, IsNumbered, module_is_text, own_fault, walk_fault, are_within, translated, at_top, fails_at_top, as_own, few_defs}
+use Rattle.emit_module.proofs.Moduling.{Parts, IsNumbered, module_is_text, own_fault, walk_fault, are_within, lines_are, translated, at_top, fails_at_top, as_own, few_defs}
 use Rattle.emit_module.proofs.Shallow.{whole_shallow}
 use Rattle.emit_module.proofs.module.emit.Goals as goal
 
@@ -69,7 +69,7 @@ returns-in-Ok-module_of-clause-translates c =
     let own = c.own_locals_law.ensures a.tree formed (c.asked_law.ensures.faultless level c.requires.0 a c.requires.1) source 0 refl refl in
     let undotted = c.texts_law.ensures a.tree (c.undotted_law.ensures.source level c.requires.0 a c.requires.1) source 0 refl in
     let named = all_named (source_texts file source 0) own undotted in
-    translated laws c.in-Ok-module_of.built parts c.in-Ok-module_of.ensures named (c.numbers_law.ensures.outer a.tree formed) (c.numbers_law.ensures.functions a.tree formed)
+    translated laws c.in-Ok-module_of.built.whole parts c.in-Ok-module_of.ensures.whole named (c.numbers_law.ensures.outer a.tree formed) (c.numbers_law.ensures.functions a.tree formed)
 
 pub returns-in-Ok-module_of-clause-within : goal.returns-in-Ok-module_of-clause-within
 returns-in-Ok-module_of-clause-within c =
@@ -95,7 +95,13 @@ returns-in-Ok-module_of-clause-shallow c =
     let level = c.args.level in
     let children = c.in-Ok-functions.children in
     let walked = at_top file level a.tree (c.asked_law.ensures.slots level c.requires.0 a c.requires.1) c.as_slice-body.ensures c.in-Ok-functions.ensures in
-    whole_shallow c.in-Ok.own children c.in-Ok-module_of.built c.in-Ok-module_of.ensures walked
+    whole_shallow c.in-Ok.own children c.in-Ok-module_of.built.whole c.in-Ok-module_of.ensures.whole walked
+
+pub returns-in-Ok-module_of-clause-lines : goal.returns-in-Ok-module_of-clause-lines
+returns-in-Ok-module_of-clause-lines c =
+    let a = c.args.accepted.now in
+    let walked = at_top c.args.file.now c.args.level a.tree (c.asked_law.ensures.slots c.args.level c.requires.0 a c.requires.1) c.as_slice-body.ensures c.in-Ok-functions.ensures in
+    lines_are c.in-Ok-module_of.built.lines c.in-Ok-module_of.ensures.lines walked
 
 pub returns-in-Err-clause-only : goal.returns-in-Err-clause-only
 returns-in-Err-clause-only c = no_fault (source_of c.args.file.now c.args.level c.args.accepted.now.tree) (Err c.in-Err.refusal) (returns-in-Err-clause-fault c)

@@ -1,4 +1,4 @@
-use Rattle.std.proofs.Common.{◌+◌, refl, ap, ◌∙◌, arith, drop}
+use Rattle.std.proofs.Common.{◌+◌, refl, ap, ap₂, ◌∙◌, arith, drop}
 use denote.Param.Weighed.{most, at_most}
 use Rattle.mpy_base.specs.declared.refused.Refused.TheVariants.{NoMemory}
 use Rattle.py_tree.proofs.stmt.Stmt.TheLaws.{the_size}
@@ -168,10 +168,10 @@ pub emit_body-returns-in-Ok-clause-numbers : goal.emit_body-returns-in-Ok-clause
 emit_body-returns-in-Ok-clause-numbers t c = omega (arith, c.in-Ok.ensures.numbers)
 
 pub emit_body-returns-in-Ok-clause-walked : goal.emit_body-returns-in-Ok-clause-walked
-emit_body-returns-in-Ok-clause-walked t c = begun_ok _ (ap (λ z. record { level = c.args.around.now.level; depth = c.args.around.now.depth + 1; next = c.args.around.now.next + 1; codes = z }) c.new.ensures) c.in-Ok.ensures.walked
+emit_body-returns-in-Ok-clause-walked t c = begun_ok _ (ap₂ (λ z ls. record { level = c.args.around.now.level; depth = c.args.around.now.depth + 1; next = c.args.around.now.next + 1; codes = z; lines = ls }) c.new.ensures c.new-2.ensures) c.in-Ok.ensures.walked
 
 pub emit_body-returns-in-Err-clause-walked : goal.emit_body-returns-in-Err-clause-walked
-emit_body-returns-in-Err-clause-walked t c = begun_err c.in-Err.refusal (ap (λ z. record { level = c.args.around.now.level; depth = c.args.around.now.depth + 1; next = c.args.around.now.next + 1; codes = z }) c.new.ensures) c.in-Err.ensures.walked
+emit_body-returns-in-Err-clause-walked t c = begun_err c.in-Err.refusal (ap₂ (λ z ls. record { level = c.args.around.now.level; depth = c.args.around.now.depth + 1; next = c.args.around.now.next + 1; codes = z; lines = ls }) c.new.ensures c.new-2.ensures) c.in-Err.ensures.walked
 
 -- ---- one statement
 

@@ -14,6 +14,8 @@ returns c =
       one_first = c.faults_law.ensures.one;
       none_first = c.faults_law.ensures.not_both;
       one_file = c.write_law.ensures.one_file;
+      one_place = c.wide_law.ensures.one;
+      none_long = c.wide_law.ensures.not_both;
     } in
     record {
       one = λ level source stored m n. one b level source stored m n;

@@ -1,21 +1,20 @@
-use Rattle.std.proofs.Common.{inl, inr, refl, sym, ◌∙◌}
+use Rattle.std.proofs.Common.{◌≡◌, ◌∷◌, length, Some, slice_get, sym, ap, ◌∙◌, arith}
+use Rattle.mpy_compile.proofs.Longs.{place_within}
 use Rattle.mpy_compile.proofs.compiling.filed.Goals as goal
 
-pub write-requires : goal.write-requires
-write-requires c = c.requires.writable (sym c.texts_fit.ensures ∙ c.if-not-texts_fit.false)
+pub long_fault-requires : goal.long_fault-requires
+long_fault-requires c =
+    let passes = rw c.in-Ok-Some.field-0-is at c.in-Ok-Some.ensures.found in
+    let within = place_within c.args.emitted.whole c.in-Ok-Some.at passes in
+    let many = c.requires.lines in
+    let same = ap length c.as_slice.ensures in
+    omega (arith, within, many, same)
 
-pub returns-then-not-texts_fit : goal.returns-then-not-texts_fit
-returns-then-not-texts_fit c = record { past = inl (sym c.texts_fit.ensures ∙ c.if-not-texts_fit.true); is = c.too_long.ensures }
-
-pub returns-in-Ok : goal.returns-in-Ok
-returns-in-Ok c = (
-  refl,
-  record {
-    reads = c.in-Ok.ensures.reads;
-    canonical = c.in-Ok.ensures.canonical;
-    first_use = c.in-Ok.ensures.first_use;
-    written = c.in-Ok.ensures.written;
-    fits = sym c.texts_fit.ensures ∙ c.if-not-texts_fit.false;
-    within = λ fault first. elim (c.in-Ok.ensures.fault fault first) [ inl e ↦ cc | inr e ↦ cc ];
-  },
-)
+pub returns-in-Ok-Some : goal.returns-in-Ok-Some
+returns-in-Ok-Some c = record {
+  at = c.in-Ok-Some.at;
+  passes = rw c.in-Ok-Some.field-0-is at c.in-Ok-Some.ensures.found;
+  stands = ap (λ ls. slice_get (1 ∷ ls) c.in-Ok-Some.at) (sym c.as_slice.ensures) ∙ c.long_fault.ensures.stands;
+  code = c.long_fault.ensures.code;
+  word = c.long_fault.ensures.word;
+}

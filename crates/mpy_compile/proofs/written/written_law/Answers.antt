@@ -6,4 +6,4 @@ pub returns : goal.returns
 returns c file level tree whole formed faultless within is ascii shallow fits =
     let accepted = c.within_law.ensures file level tree formed faultless within in
     written c.lengths_law.ensures (source_of file level tree) whole is (c.module_law.ensures.verified file level tree whole accepted is) (c.spelled_law.ensures tree formed)
-    (c.limits_law.ensures.within file level 0 tree accepted) (all_short within) ascii shallow fits
+    (c.limits_law.ensures.within file level 0 tree accepted) (all_short within) shallow ascii fits
