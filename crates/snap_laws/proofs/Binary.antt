@@ -3,13 +3,13 @@ use Rattle.std.proofs.Common.{◌≡◌, ℕ, zero, suc, List, ◌++◌, map, Re
 use Rattle.std.specs.Prelude.{ℤ}
 use Rattle.std.specs.List.{repeat}
 use Rattle.std.proofs.lemmas.List.{map-append}
-use Rattle.py_primitives.specs.mpy_base.Val.{Val, Int}
-use Rattle.py_primitives.specs.py_values.declared.small_int.NumFault.{NumFault}
-use Rattle.py_primitives.specs.py_values.Shown.{PlainHeap, Shown, Number, Text, Tuple, Items, shown, at_least_zero}
-use Rattle.py_primitives.specs.py_values.Names.{type_name}
-use Rattle.py_primitives.specs.Faults.{Arithmetic, Unsupported}
-use Rattle.py_primitives.specs.Outcome.{Outcome, making_text, making_tuple, making_list}
-use Rattle.py_primitives.specs.Operators.{Operator, Add, Multiply, number_answer, gives_number, operator_method, unsupported, binary_shown, binary}
+use Rattle.bc_machine.specs.mpy_base.Val.{Val, Int}
+use Rattle.bc_machine.specs.py_values.declared.small_int.NumFault.{NumFault}
+use Rattle.bc_machine.specs.py_values.Shown.{PlainHeap, Shown, Number, Text, Tuple, Items, shown, at_least_zero}
+use Rattle.bc_machine.specs.py_values.Names.{type_name}
+use Rattle.bc_machine.specs.py_primitives.Faults.{Arithmetic, Unsupported}
+use Rattle.bc_machine.specs.py_primitives.Outcome.{Outcome, making_text, making_tuple, making_list}
+use Rattle.bc_machine.specs.py_primitives.Operators.{Operator, Add, Multiply, number_answer, gives_number, operator_method, unsupported, binary_shown, binary}
 use Rattle.snap_laws.specs.Renamed.{Renaming, value, shown_as, IsRenamed}
 use Rattle.snap_laws.specs.Outcomes.{IsOutcome}
 use Rattle.snap_laws.proofs.Seen.{seen}

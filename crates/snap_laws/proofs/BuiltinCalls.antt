@@ -6,23 +6,23 @@ use Rattle.std.specs.Option.{option_map}
 use Rattle.std.specs.Ordering.{int_eq}
 use Rattle.std.specs.declared.cmp.Ordering.{Ordering}
 use Rattle.std.proofs.lemmas.List.{length-map}
-use Rattle.py_primitives.specs.mpy_base.declared.builtin.Builtin.{Builtin}
-use Rattle.py_primitives.specs.mpy_base.declared.builtin.Builtin.TheVariants as builtins
-use Rattle.py_primitives.specs.mpy_base.declared.kind.Kind.{Kind}
-use Rattle.py_primitives.specs.mpy_base.World.{DictObject, RangeObject, ExceptionObject}
-use Rattle.py_primitives.specs.mpy_base.Val.{Val, Nil, Truth, Int, Str, Fixed, Empty, Built, At}
-use Rattle.py_primitives.specs.py_values.Small.{checked}
-use Rattle.py_primitives.specs.py_values.Shown.{PlainHeap, Shown, Nothing, Number, Text, Tuple, Items, Pairs, Range, Other, shown, truth}
-use Rattle.py_primitives.specs.py_values.Names.{builtin_name, type_name}
-use Rattle.py_primitives.specs.py_values.Equality.{visit}
-use Rattle.py_primitives.specs.Walks.{walk_map}
-use Rattle.py_primitives.specs.Texts.{str_of, repr_of}
-use Rattle.py_primitives.specs.Order.{Sign, Below, Above, has_sign, Unordered, order, better, best_from}
-use Rattle.py_primitives.specs.Faults.{Fault, NoLength, NotANumber, ZeroStep, NothingToCompare, NoNumeral, NoCharacter, NoCode, NotTypes, NoKeywords, fault_kind, fault_value, fault_text}
-use Rattle.py_primitives.specs.Outcome.{Outcome, gives, raises, making, making_text, making_tuple, making_exception, list_of, tuple_of, fault_argument, making_fault}
-use Rattle.py_primitives.specs.Iterables.{items_in, kept_items, length_of}
-use Rattle.py_primitives.specs.Operators.{gives_number, sign_method, members, all_of}
-use Rattle.py_primitives.specs.Calls.{Counts, counts_of, count_fault, unless_fault, of_number, with_number, call_len, call_abs, range_of, call_range, trimmed, signed_number, gives_numeral, int_of, ord_of, character, call_str, call_repr, gives_best, best_of, made_letter, call_best, list_from, call_list, tuple_from, tuple_shown, call_tuple, call_dict, named_type, is_number, is_exception_of, is_instance, instance_of, call_isinstance, elsewhere, called, call}
+use Rattle.bc_machine.specs.mpy_base.declared.builtin.Builtin.{Builtin}
+use Rattle.bc_machine.specs.mpy_base.declared.builtin.Builtin.TheVariants as builtins
+use Rattle.bc_machine.specs.mpy_base.declared.kind.Kind.{Kind}
+use Rattle.bc_machine.specs.mpy_base.World.{DictObject, RangeObject, ExceptionObject}
+use Rattle.bc_machine.specs.mpy_base.Val.{Val, Nil, Truth, Int, Str, Fixed, Empty, Built, At}
+use Rattle.bc_machine.specs.py_values.Small.{checked}
+use Rattle.bc_machine.specs.py_values.Shown.{PlainHeap, Shown, Nothing, Number, Text, Tuple, Items, Pairs, Range, Other, shown, truth}
+use Rattle.bc_machine.specs.py_values.Names.{builtin_name, type_name}
+use Rattle.bc_machine.specs.py_values.Equality.{visit}
+use Rattle.bc_machine.specs.py_primitives.Walks.{walk_map}
+use Rattle.bc_machine.specs.py_primitives.Texts.{str_of, repr_of}
+use Rattle.bc_machine.specs.py_primitives.Order.{Sign, Below, Above, has_sign, Unordered, order, better, best_from}
+use Rattle.bc_machine.specs.py_primitives.Faults.{Fault, NoLength, NotANumber, ZeroStep, NothingToCompare, NoNumeral, NoCharacter, NoCode, NotTypes, NoKeywords, fault_kind, fault_value, fault_text}
+use Rattle.bc_machine.specs.py_primitives.Outcome.{Outcome, gives, raises, making, making_text, making_tuple, making_exception, list_of, tuple_of, fault_argument, making_fault}
+use Rattle.bc_machine.specs.py_primitives.Iterables.{items_in, kept_items, length_of}
+use Rattle.bc_machine.specs.py_primitives.Operators.{gives_number, sign_method, members, all_of}
+use Rattle.bc_machine.specs.py_primitives.Calls.{Counts, counts_of, count_fault, unless_fault, of_number, with_number, call_len, call_abs, range_of, call_range, trimmed, signed_number, gives_numeral, int_of, ord_of, character, call_str, call_repr, gives_best, best_of, made_letter, call_best, list_from, call_list, tuple_from, tuple_shown, call_tuple, call_dict, named_type, is_number, is_exception_of, is_instance, instance_of, call_isinstance, elsewhere, called, call}
 use Rattle.snap_laws.specs.Renamed.{Renaming, value, pair, shown_as, IsRenamed}
 use Rattle.snap_laws.specs.Outcomes.{IsOutcome, fault_as, order_as, best_as}
 use Rattle.snap_laws.proofs.Seen.{seen, truth_as}
@@ -44,11 +44,11 @@ module _ (r : Renaming) where
   plain_if false x y p q = q
 
   pub count_plain : (counts : Counts) (given : ℕ) → Plain r (count_fault counts given)
-  count_plain (Rattle.py_primitives.specs.Calls.Exactly n) given = plain_if (Rattle.std.specs.Prelude.nat_eq n given) None (Some (Rattle.py_primitives.specs.Faults.WrongCount n given)) tt refl
-  count_plain (Rattle.py_primitives.specs.Calls.Between least most) given =
-      plain_if (nat_lt given least) (Some (Rattle.py_primitives.specs.Faults.TooFew least given)) (cond (nat_lt most given) (Some (Rattle.py_primitives.specs.Faults.TooMany most given)) None) refl
-      (plain_if (nat_lt most given) (Some (Rattle.py_primitives.specs.Faults.TooMany most given)) None refl tt)
-  count_plain (Rattle.py_primitives.specs.Calls.AtLeast least) given = plain_if (nat_lt given least) (Some (Rattle.py_primitives.specs.Faults.TooFew least given)) None refl tt
+  count_plain (Rattle.bc_machine.specs.py_primitives.Calls.Exactly n) given = plain_if (Rattle.std.specs.Prelude.nat_eq n given) None (Some (Rattle.bc_machine.specs.py_primitives.Faults.WrongCount n given)) tt refl
+  count_plain (Rattle.bc_machine.specs.py_primitives.Calls.Between least most) given =
+      plain_if (nat_lt given least) (Some (Rattle.bc_machine.specs.py_primitives.Faults.TooFew least given)) (cond (nat_lt most given) (Some (Rattle.bc_machine.specs.py_primitives.Faults.TooMany most given)) None) refl
+      (plain_if (nat_lt most given) (Some (Rattle.bc_machine.specs.py_primitives.Faults.TooMany most given)) None refl tt)
+  count_plain (Rattle.bc_machine.specs.py_primitives.Calls.AtLeast least) given = plain_if (nat_lt given least) (Some (Rattle.bc_machine.specs.py_primitives.Faults.TooFew least given)) None refl tt
 
   named_type_as : (v : Val) → named_type (value r v) ≡ named_type v
   named_type_as Nil = refl
@@ -72,16 +72,16 @@ module _ (r : Renaming) where
 
   -- the exceptions of faults
   kind_told : (fault : Fault) → fault_kind (fault_as r fault) ≡ fault_kind fault
-  kind_told (Rattle.py_primitives.specs.Faults.NoKey key) = refl
+  kind_told (Rattle.bc_machine.specs.py_primitives.Faults.NoKey key) = refl
   kind_told _ = refl
 
   text_told : (fault : Fault) → fault_text (fault_as r fault) ≡ fault_text fault
-  text_told (Rattle.py_primitives.specs.Faults.NoKey key) = refl
+  text_told (Rattle.bc_machine.specs.py_primitives.Faults.NoKey key) = refl
   text_told _ = refl
 
   value_told : (fault : Fault) → fault_value (fault_as r fault) ≡ option_map (value r) (fault_value fault)
-  value_told (Rattle.py_primitives.specs.Faults.NoKey key) = refl
-  value_told Rattle.py_primitives.specs.Faults.PortFailed = refl
+  value_told (Rattle.bc_machine.specs.py_primitives.Faults.NoKey key) = refl
+  value_told Rattle.bc_machine.specs.py_primitives.Faults.PortFailed = refl
   value_told _ = refl
 
   pub exception_made : (h k : PlainHeap) → IsRenamed r h k → (kind : Kind) (xs ys : List Val) → ys ≡ map (value r) xs → IsOutcome r (value r) (making_exception h kind xs) (making_exception k kind ys)

@@ -2,16 +2,16 @@
 use Rattle.std.proofs.Common.{◌≡◌, ℕ, zero, suc, ◌+◌, Bool, true, false, cond, leb, List, [], ◌∷◌, length, map, replicate, Option, Some, None, Result, Ok, Err, refl, sym, ap, subst, ◌∙◌}
 use Rattle.std.specs.Option.{option_map}
 use Rattle.std.proofs.lemmas.List.{length-map}
-use Rattle.py_primitives.specs.mpy_base.World.{Object, ListObject, TupleObject, TextObject, DictObject, FunctionObject, ExceptionObject, MethodObject, RangeObject, ModuleObject, object, items_of, room_of, pairs_of, items_at, room_at, pairs_at, with_object, with_list, with_tuple, with_dict}
-use Rattle.py_primitives.specs.mpy_base.Weights.{used, cells_of, bytes_of, does_fit, no_room, with_made, with_used, room_for, list_growth, dict_growth, grown_room, with_list_room, with_items, with_pairs}
-use Rattle.py_primitives.specs.mpy_base.Val.{Val, Nil, Truth, Int, Str, Fixed, Empty, Built, At}
-use Rattle.py_primitives.specs.py_values.Shown.{PlainHeap}
-use Rattle.py_primitives.specs.py_values.Equality.{Walk}
-use Rattle.py_primitives.specs.py_values.Names.{type_name, object_type}
-use Rattle.py_primitives.specs.Faults.{Fault, TooDeep}
-use Rattle.py_primitives.specs.Outcome.{Stop, Raises, Full, Outcome, gives, raises, is_full, with_visits, go_on_with, followed_by, after_answer, after_walk, making, making_text, making_tuple, making_list, making_texts, list_of, tuple_of}
-use Rattle.py_primitives.specs.Walks.{walk_map, go_on, and_then}
-use Rattle.py_primitives.specs.py_values.Equality.{after}
+use Rattle.bc_machine.specs.mpy_base.World.{Object, ListObject, TupleObject, TextObject, DictObject, FunctionObject, ExceptionObject, MethodObject, RangeObject, ModuleObject, object, items_of, room_of, pairs_of, items_at, room_at, pairs_at, with_object, with_list, with_tuple, with_dict}
+use Rattle.bc_machine.specs.mpy_base.Weights.{used, cells_of, bytes_of, does_fit, no_room, with_made, with_used, room_for, list_growth, dict_growth, grown_room, with_list_room, with_items, with_pairs}
+use Rattle.bc_machine.specs.mpy_base.Val.{Val, Nil, Truth, Int, Str, Fixed, Empty, Built, At}
+use Rattle.bc_machine.specs.py_values.Shown.{PlainHeap}
+use Rattle.bc_machine.specs.py_values.Equality.{Walk}
+use Rattle.bc_machine.specs.py_values.Names.{type_name, object_type}
+use Rattle.bc_machine.specs.py_primitives.Faults.{Fault, TooDeep}
+use Rattle.bc_machine.specs.py_primitives.Outcome.{Stop, Raises, Full, Outcome, gives, raises, is_full, with_visits, go_on_with, followed_by, after_answer, after_walk, making, making_text, making_tuple, making_list, making_texts, list_of, tuple_of}
+use Rattle.bc_machine.specs.py_primitives.Walks.{walk_map, go_on, and_then}
+use Rattle.bc_machine.specs.py_values.Equality.{after}
 use Rattle.snap_laws.specs.Renamed.{Renaming, value, pair, object_as, IsRenamed}
 use Rattle.snap_laws.specs.Outcomes.{IsOutcome, fault_as, answer_as}
 use Rattle.snap_laws.proofs.Changes.{cells_as, bytes_as, set_as, used_as, made_as, number_as}

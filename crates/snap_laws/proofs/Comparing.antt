@@ -6,21 +6,21 @@ use Rattle.std.specs.Option.{option_map}
 use Rattle.std.specs.declared.cmp.Ordering.{Ordering}
 use Rattle.std.specs.Ordering.{nat_cmp}
 use Rattle.std.proofs.lemmas.List.{length-map, map-append}
-use Rattle.py_primitives.specs.mpy_base.declared.limits.TheConstants.{MAX_WALK_DEPTH}
-use Rattle.py_primitives.specs.mpy_base.declared.kind.Kind.{Kind}
-use Rattle.py_primitives.specs.mpy_base.World.{Object, ListObject, TupleObject, DictObject, TextObject, FunctionObject, ExceptionObject, MethodObject, RangeObject, ModuleObject, object, items_at, with_list}
-use Rattle.py_primitives.specs.mpy_base.Weights.{does_fit, list_growth, with_list_room}
-use Rattle.py_primitives.specs.mpy_base.Val.{Val, Vals, Only, Then, Nil, Truth, Int, Str, Fixed, Empty, Built, At}
-use Rattle.py_primitives.specs.py_values.Shown.{PlainHeap, Shown, Nothing, Number, Text, Tuple, Items, Pairs, Range, Other, shown, truth}
-use Rattle.py_primitives.specs.py_values.Keys.{value_of_key}
-use Rattle.py_primitives.specs.py_values.Names.{type_name}
-use Rattle.py_primitives.specs.py_values.Equality.{Walk, answers, visit, equal, equal_within}
-use Rattle.py_primitives.specs.Walks.{walk_map}
-use Rattle.py_primitives.specs.Faults.{UnsupportedOne, UnsupportedMatch}
-use Rattle.py_primitives.specs.Outcome.{Outcome, gives, is_full, followed_by, after_walk}
-use Rattle.py_primitives.specs.Order.{Sign, has_sign, Unordered, order_items, order_shown, order_within, order}
-use Rattle.py_primitives.specs.Iterables.{kept_items}
-use Rattle.py_primitives.specs.Operators.{Operator, Add, extended_by, extend, in_place_shown, in_place, UnaryOperator, unary_method, unary_answer, unary_shown, unary, unary_not, op_eq, op_ne, gives_order, op_order, sign_method, is_one_shown, is_one, are_one, op_is, contains_equal, is_part, is_in_range, contains_shown, op_contains, raised_kind, exception_kind, named_kind, members, all_of, is_under, match_kinds, op_match}
+use Rattle.bc_machine.specs.mpy_base.declared.limits.TheConstants.{MAX_WALK_DEPTH}
+use Rattle.bc_machine.specs.mpy_base.declared.kind.Kind.{Kind}
+use Rattle.bc_machine.specs.mpy_base.World.{Object, ListObject, TupleObject, DictObject, TextObject, FunctionObject, ExceptionObject, MethodObject, RangeObject, ModuleObject, object, items_at, with_list}
+use Rattle.bc_machine.specs.mpy_base.Weights.{does_fit, list_growth, with_list_room}
+use Rattle.bc_machine.specs.mpy_base.Val.{Val, Vals, Only, Then, Nil, Truth, Int, Str, Fixed, Empty, Built, At}
+use Rattle.bc_machine.specs.py_values.Shown.{PlainHeap, Shown, Nothing, Number, Text, Tuple, Items, Pairs, Range, Other, shown, truth}
+use Rattle.bc_machine.specs.py_values.Keys.{value_of_key}
+use Rattle.bc_machine.specs.py_values.Names.{type_name}
+use Rattle.bc_machine.specs.py_values.Equality.{Walk, answers, visit, equal, equal_within}
+use Rattle.bc_machine.specs.py_primitives.Walks.{walk_map}
+use Rattle.bc_machine.specs.py_primitives.Faults.{UnsupportedOne, UnsupportedMatch}
+use Rattle.bc_machine.specs.py_primitives.Outcome.{Outcome, gives, is_full, followed_by, after_walk}
+use Rattle.bc_machine.specs.py_primitives.Order.{Sign, has_sign, Unordered, order_items, order_shown, order_within, order}
+use Rattle.bc_machine.specs.py_primitives.Iterables.{kept_items}
+use Rattle.bc_machine.specs.py_primitives.Operators.{Operator, Add, extended_by, extend, in_place_shown, in_place, UnaryOperator, unary_method, unary_answer, unary_shown, unary, unary_not, op_eq, op_ne, gives_order, op_order, sign_method, is_one_shown, is_one, are_one, op_is, contains_equal, is_part, is_in_range, contains_shown, op_contains, raised_kind, exception_kind, named_kind, members, all_of, is_under, match_kinds, op_match}
 use Rattle.snap_laws.specs.Renamed.{Renaming, value, items_as, pair, object_as, shown_as, IsRenamed}
 use Rattle.snap_laws.specs.Outcomes.{IsOutcome, order_as}
 use Rattle.snap_laws.proofs.Seen.{seen, truth_as, same_as, value_of_key_as, within, equal_as}

@@ -5,12 +5,12 @@ use Rattle.std.specs.List.{range_with_len}
 use Rattle.std.specs.Option.{option_map}
 use Rattle.std.proofs.lemmas.List.{length-map}
 use Rattle.std.proofs.lemmas.Option.{slice_get-map}
-use Rattle.py_primitives.specs.mpy_base.Val.{Val, Nil, Int}
-use Rattle.py_primitives.specs.py_values.Shown.{PlainHeap, Shown, Nothing, Number, Text, Tuple, Items, Pairs, Range, Other, range_len, shown}
-use Rattle.py_primitives.specs.py_values.Names.{type_name}
-use Rattle.py_primitives.specs.Faults.{NotIterable}
-use Rattle.py_primitives.specs.Outcome.{Outcome, gives}
-use Rattle.py_primitives.specs.Iterables.{range_number, letter, shown_items, items_in, shown_length, length_of, or_nil, shown_item, item_of, over_items, iterating, use_iter, kept_items}
+use Rattle.bc_machine.specs.mpy_base.Val.{Val, Nil, Int}
+use Rattle.bc_machine.specs.py_values.Shown.{PlainHeap, Shown, Nothing, Number, Text, Tuple, Items, Pairs, Range, Other, range_len, shown}
+use Rattle.bc_machine.specs.py_values.Names.{type_name}
+use Rattle.bc_machine.specs.py_primitives.Faults.{NotIterable}
+use Rattle.bc_machine.specs.py_primitives.Outcome.{Outcome, gives}
+use Rattle.bc_machine.specs.py_primitives.Iterables.{range_number, letter, shown_items, items_in, shown_length, length_of, or_nil, shown_item, item_of, over_items, iterating, use_iter, kept_items}
 use Rattle.snap_laws.specs.Renamed.{Renaming, value, pair, shown_as, IsRenamed}
 use Rattle.snap_laws.specs.Outcomes.{IsOutcome}
 use Rattle.snap_laws.proofs.Seen.{seen}

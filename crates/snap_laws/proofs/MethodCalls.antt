@@ -4,21 +4,21 @@ use Rattle.std.specs.Prelude.{negsuc, insert, nat_eq, slice_get, codes}
 use Rattle.std.specs.List.{remove, starts_with}
 use Rattle.std.specs.Option.{option_map}
 use Rattle.std.proofs.lemmas.List.{length-map, map-append, take-map, drop-map}
-use Rattle.py_primitives.specs.mpy_base.declared.builtin.Builtin.{Builtin}
-use Rattle.py_primitives.specs.mpy_base.declared.builtin.Builtin.TheVariants as builtins
-use Rattle.py_primitives.specs.mpy_base.World.{with_list, with_dict}
-use Rattle.py_primitives.specs.mpy_base.Weights.{list_growth, with_items}
-use Rattle.py_primitives.specs.mpy_base.Val.{Val, Nil, Truth, Int, At}
-use Rattle.py_primitives.specs.py_values.Shown.{PlainHeap, Shown, Nothing, Number, Text, Tuple, Items, Pairs, Range, Other, shown}
-use Rattle.py_primitives.specs.py_values.Keys.{value_of_key, without_key}
-use Rattle.py_primitives.specs.py_values.Equality.{visit}
-use Rattle.py_primitives.specs.py_values.Small.{checked}
-use Rattle.py_primitives.specs.Faults.{NoKeywords, EmptyList, NoKey, JoinsNoStr, EmptySeparator}
-use Rattle.py_primitives.specs.Outcome.{Outcome, gives, with_visits, after_walk, making_texts, making_tuple, making_list, list_of}
-use Rattle.py_primitives.specs.Texts.{joined}
-use Rattle.py_primitives.specs.Iterables.{or_nil, place_before}
-use Rattle.py_primitives.specs.Operators.{gives_number, extend}
-use Rattle.py_primitives.specs.Methods.{put_items, pop_at, pop_from, pop, insert_item, list_method, get_or, pop_found, dict_list, making_pairs, dict_method, str_in, part_behind, parts_of, gives_joined, found_from, pieces_between, words_of, list_of_texts, of_str, split_by, str_method, method_shown, call_method}
+use Rattle.bc_machine.specs.mpy_base.declared.builtin.Builtin.{Builtin}
+use Rattle.bc_machine.specs.mpy_base.declared.builtin.Builtin.TheVariants as builtins
+use Rattle.bc_machine.specs.mpy_base.World.{with_list, with_dict}
+use Rattle.bc_machine.specs.mpy_base.Weights.{list_growth, with_items}
+use Rattle.bc_machine.specs.mpy_base.Val.{Val, Nil, Truth, Int, At}
+use Rattle.bc_machine.specs.py_values.Shown.{PlainHeap, Shown, Nothing, Number, Text, Tuple, Items, Pairs, Range, Other, shown}
+use Rattle.bc_machine.specs.py_values.Keys.{value_of_key, without_key}
+use Rattle.bc_machine.specs.py_values.Equality.{visit}
+use Rattle.bc_machine.specs.py_values.Small.{checked}
+use Rattle.bc_machine.specs.py_primitives.Faults.{NoKeywords, EmptyList, NoKey, JoinsNoStr, EmptySeparator}
+use Rattle.bc_machine.specs.py_primitives.Outcome.{Outcome, gives, with_visits, after_walk, making_texts, making_tuple, making_list, list_of}
+use Rattle.bc_machine.specs.py_primitives.Texts.{joined}
+use Rattle.bc_machine.specs.py_primitives.Iterables.{or_nil, place_before}
+use Rattle.bc_machine.specs.py_primitives.Operators.{gives_number, extend}
+use Rattle.bc_machine.specs.py_primitives.Methods.{put_items, pop_at, pop_from, pop, insert_item, list_method, get_or, pop_found, dict_list, making_pairs, dict_method, str_in, part_behind, parts_of, gives_joined, found_from, pieces_between, words_of, list_of_texts, of_str, split_by, str_method, method_shown, call_method}
 use Rattle.snap_laws.specs.Renamed.{Renaming, value, pair, shown_as, IsRenamed}
 use Rattle.snap_laws.specs.Outcomes.{IsOutcome}
 use Rattle.snap_laws.proofs.Seen.{seen, value_of_key_as}

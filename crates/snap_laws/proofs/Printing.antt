@@ -2,19 +2,19 @@
 use Rattle.std.proofs.Common.{◌≡◌, ℕ, Bool, true, false, cond, List, [], ◌∷◌, ◌++◌, length, map, Option, Some, None, Result, Ok, Err, refl, sym, ap, subst, ◌∙◌}
 use Rattle.std.specs.Prelude.{ℤ, pos, negsuc, bytes_eq, slice_get, slice_set, unwrap_or, codes}
 use Rattle.std.proofs.lemmas.List.{length-map}
-use Rattle.py_primitives.specs.mpy_base.declared.builtin.Builtin.{Builtin}
-use Rattle.py_primitives.specs.mpy_base.declared.builtin.Builtin.TheVariants as builtins
-use Rattle.py_primitives.specs.mpy_base.World.{PortState}
-use Rattle.py_primitives.specs.mpy_base.Val.{Val, Nil, Int}
-use Rattle.py_primitives.specs.py_values.declared.small_int.NumFault.TheVariants.{Overflow}
-use Rattle.py_primitives.specs.py_values.Range.{is_small}
-use Rattle.py_primitives.specs.py_values.Shown.{PlainHeap, Shown, Nothing, Number, Text, Tuple, Items, Pairs, Range, Other, shown}
-use Rattle.py_primitives.specs.Walks.{walk_all}
-use Rattle.py_primitives.specs.Texts.{str_of, joined}
-use Rattle.py_primitives.specs.Calls.{counts_of, count_fault}
-use Rattle.py_primitives.specs.Faults.{Fault, NoKeywords, UnknownKeyword, NotANumber, NoSuchPort, PortFailed, Arithmetic}
-use Rattle.py_primitives.specs.Outcome.{Raises, gives}
-use Rattle.py_primitives.specs.Output.{Ends, if_new, named_end, one_end, ends_from, printed_with, printed, PortOutcome, with_call, call_fails, refused, put_to, number_answer, taken, others, get_from, not_a_number, put_shown, call_port_put, get_shown, call_port_get, port_called, port_unless_fault, call_port}
+use Rattle.bc_machine.specs.mpy_base.declared.builtin.Builtin.{Builtin}
+use Rattle.bc_machine.specs.mpy_base.declared.builtin.Builtin.TheVariants as builtins
+use Rattle.bc_machine.specs.mpy_base.World.{PortState}
+use Rattle.bc_machine.specs.mpy_base.Val.{Val, Nil, Int}
+use Rattle.bc_machine.specs.py_values.declared.small_int.NumFault.TheVariants.{Overflow}
+use Rattle.bc_machine.specs.py_values.Range.{is_small}
+use Rattle.bc_machine.specs.py_values.Shown.{PlainHeap, Shown, Nothing, Number, Text, Tuple, Items, Pairs, Range, Other, shown}
+use Rattle.bc_machine.specs.py_primitives.Walks.{walk_all}
+use Rattle.bc_machine.specs.py_primitives.Texts.{str_of, joined}
+use Rattle.bc_machine.specs.py_primitives.Calls.{counts_of, count_fault}
+use Rattle.bc_machine.specs.py_primitives.Faults.{Fault, NoKeywords, UnknownKeyword, NotANumber, NoSuchPort, PortFailed, Arithmetic}
+use Rattle.bc_machine.specs.py_primitives.Outcome.{Raises, gives}
+use Rattle.bc_machine.specs.py_primitives.Output.{Ends, if_new, named_end, one_end, ends_from, printed_with, printed, PortOutcome, with_call, call_fails, refused, put_to, number_answer, taken, others, get_from, not_a_number, put_shown, call_port_put, get_shown, call_port_get, port_called, port_unless_fault, call_port}
 use Rattle.snap_laws.specs.Renamed.{Renaming, value, pair, shown_as, IsRenamed}
 use Rattle.snap_laws.specs.Outcomes.{IsOutcome, IsPortOutcome, fault_as, answer_as}
 use Rattle.snap_laws.proofs.Seen.{seen}

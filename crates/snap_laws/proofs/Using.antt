@@ -4,20 +4,20 @@ use Rattle.std.specs.Prelude.{nat_lt, is_some, slice_set, bytes_eq, codes}
 use Rattle.std.specs.List.{remove}
 use Rattle.std.specs.Option.{option_map}
 use Rattle.std.proofs.lemmas.List.{length-map, map-append, map-set, take-map, drop-map}
-use Rattle.py_primitives.specs.mpy_base.declared.builtin.Builtin.{Builtin}
-use Rattle.py_primitives.specs.mpy_base.declared.builtin.Builtin.TheVariants as builtins
-use Rattle.py_primitives.specs.mpy_base.World.{Object, ListObject, TupleObject, DictObject, TextObject, FunctionObject, ExceptionObject, MethodObject, RangeObject, ModuleObject, object, pairs_at, with_list, with_dict}
-use Rattle.py_primitives.specs.mpy_base.Weights.{does_fit, dict_growth, with_pairs}
-use Rattle.py_primitives.specs.mpy_base.Val.{Val, Nil, Str, Built, At}
-use Rattle.py_primitives.specs.py_values.Shown.{PlainHeap, Shown, Number, Text, Tuple, Items, Pairs, Range, shown}
-use Rattle.py_primitives.specs.py_values.Keys.{key_of, has_key, value_of_key, with_key, without_key}
-use Rattle.py_primitives.specs.py_values.Names.{type_name}
-use Rattle.py_primitives.specs.Builtins.{named, list_methods, dict_methods, str_methods, port_calls}
-use Rattle.py_primitives.specs.Faults.{UnsupportedOne, NotAnIndex, OutOfRange, NoKey, NotSubscriptable, NotAssignable, NotDeletable, NoAttribute, UnpacksMore, UnpacksFewer}
-use Rattle.py_primitives.specs.Outcome.{Outcome, gives, raises, is_full}
-use Rattle.py_primitives.specs.Iterables.{kept_items, length_of, item_of, place_at}
-use Rattle.py_primitives.specs.Operators.{with_key_of}
-use Rattle.py_primitives.specs.Uses.{at_found, at_shown, at_place, at_key, of_key, shown_at, get_item, put_pair, set_shown, set_item, delete_shown, delete_item, Attribute, Found, Method, Absent, found_value, found_method, object_attribute, attribute, no_attribute, gives_attribute, get_attr, set_in, set_attr, unpack_items, unpack}
+use Rattle.bc_machine.specs.mpy_base.declared.builtin.Builtin.{Builtin}
+use Rattle.bc_machine.specs.mpy_base.declared.builtin.Builtin.TheVariants as builtins
+use Rattle.bc_machine.specs.mpy_base.World.{Object, ListObject, TupleObject, DictObject, TextObject, FunctionObject, ExceptionObject, MethodObject, RangeObject, ModuleObject, object, pairs_at, with_list, with_dict}
+use Rattle.bc_machine.specs.mpy_base.Weights.{does_fit, dict_growth, with_pairs}
+use Rattle.bc_machine.specs.mpy_base.Val.{Val, Nil, Str, Built, At}
+use Rattle.bc_machine.specs.py_values.Shown.{PlainHeap, Shown, Number, Text, Tuple, Items, Pairs, Range, shown}
+use Rattle.bc_machine.specs.py_values.Keys.{key_of, has_key, value_of_key, with_key, without_key}
+use Rattle.bc_machine.specs.py_values.Names.{type_name}
+use Rattle.bc_machine.specs.py_primitives.Builtins.{named, list_methods, dict_methods, str_methods, port_calls}
+use Rattle.bc_machine.specs.py_primitives.Faults.{UnsupportedOne, NotAnIndex, OutOfRange, NoKey, NotSubscriptable, NotAssignable, NotDeletable, NoAttribute, UnpacksMore, UnpacksFewer}
+use Rattle.bc_machine.specs.py_primitives.Outcome.{Outcome, gives, raises, is_full}
+use Rattle.bc_machine.specs.py_primitives.Iterables.{kept_items, length_of, item_of, place_at}
+use Rattle.bc_machine.specs.py_primitives.Operators.{with_key_of}
+use Rattle.bc_machine.specs.py_primitives.Uses.{at_found, at_shown, at_place, at_key, of_key, shown_at, get_item, put_pair, set_shown, set_item, delete_shown, delete_item, Attribute, Found, Method, Absent, found_value, found_method, object_attribute, attribute, no_attribute, gives_attribute, get_attr, set_in, set_attr, unpack_items, unpack}
 use Rattle.snap_laws.specs.Renamed.{Renaming, value, pair, object_as, shown_as, IsRenamed}
 use Rattle.snap_laws.specs.Outcomes.{IsOutcome, attribute_as}
 use Rattle.snap_laws.proofs.Seen.{seen, key_as, has_key_as, value_of_key_as}
@@ -74,8 +74,8 @@ module _ (r : Renaming) where
     -- keys
     pub keyed : {A : Type 0} (f : A → A) (key : Val) (next next' : Outcome A) → IsOutcome r f next next' → IsOutcome r f (with_key_of h key next) (with_key_of k (value r key) next')
     keyed f key next next' on =
-        let fault : Rattle.py_primitives.specs.Faults.Fault = UnsupportedOne (codes "__hash__") (type_name h key) in
-        let fault' : Rattle.py_primitives.specs.Faults.Fault = UnsupportedOne (codes "__hash__") (type_name k (value r key)) in
+        let fault : Rattle.bc_machine.specs.py_primitives.Faults.Fault = UnsupportedOne (codes "__hash__") (type_name h key) in
+        let fault' : Rattle.bc_machine.specs.py_primitives.Faults.Fault = UnsupportedOne (codes "__hash__") (type_name k (value r key)) in
         either r f (is_some (key_of h key)) (is_some (key_of k (value r key))) next (raises fault h) next' (raises fault' k) (ap is_some (key_as r h k is key)) on
         (raised r f h k is fault fault' (ap (UnsupportedOne (codes "__hash__")) (type_as r h k is key)))
 

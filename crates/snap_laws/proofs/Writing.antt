@@ -2,15 +2,15 @@
 use Rattle.std.proofs.Common.{◌≡◌, ℕ, zero, suc, Bool, true, false, List, [], ◌∷◌, ◌++◌, map, Option, Some, None, refl, ap, ◌∙◌}
 use Rattle.std.specs.Prelude.{codes}
 use Rattle.std.specs.Option.{option_map}
-use Rattle.py_primitives.specs.mpy_base.declared.kind.Kind.{Kind}
-use Rattle.py_primitives.specs.mpy_base.declared.limits.TheConstants.{MAX_WALK_DEPTH}
-use Rattle.py_primitives.specs.mpy_base.Kind.{kind_name}
-use Rattle.py_primitives.specs.mpy_base.World.{Object, ListObject, TupleObject, DictObject, TextObject, FunctionObject, ExceptionObject, MethodObject, RangeObject, ModuleObject, object}
-use Rattle.py_primitives.specs.mpy_base.Val.{Val, Nil, Truth, Int, Str, Fixed, Empty, Built, At, vals}
-use Rattle.py_primitives.specs.py_values.Shown.{PlainHeap, Shown, Nothing, Number, Text, Tuple, Items, Pairs, Range, Other, shown}
-use Rattle.py_primitives.specs.py_values.Equality.{Walk, visit}
-use Rattle.py_primitives.specs.Walks.{walk_map, walk_all}
-use Rattle.py_primitives.specs.Texts.{joined, items_of_tuple, texts_between, tuple_text, pair_text, dict_text, exception_str, exception_text, object_text, written, write_within, str_of, repr_of}
+use Rattle.bc_machine.specs.mpy_base.declared.kind.Kind.{Kind}
+use Rattle.bc_machine.specs.mpy_base.declared.limits.TheConstants.{MAX_WALK_DEPTH}
+use Rattle.bc_machine.specs.mpy_base.Kind.{kind_name}
+use Rattle.bc_machine.specs.mpy_base.World.{Object, ListObject, TupleObject, DictObject, TextObject, FunctionObject, ExceptionObject, MethodObject, RangeObject, ModuleObject, object}
+use Rattle.bc_machine.specs.mpy_base.Val.{Val, Nil, Truth, Int, Str, Fixed, Empty, Built, At, vals}
+use Rattle.bc_machine.specs.py_values.Shown.{PlainHeap, Shown, Nothing, Number, Text, Tuple, Items, Pairs, Range, Other, shown}
+use Rattle.bc_machine.specs.py_values.Equality.{Walk, visit}
+use Rattle.bc_machine.specs.py_primitives.Walks.{walk_map, walk_all}
+use Rattle.bc_machine.specs.py_primitives.Texts.{joined, items_of_tuple, texts_between, tuple_text, pair_text, dict_text, exception_str, exception_text, object_text, written, write_within, str_of, repr_of}
 use Rattle.snap_laws.specs.Renamed.{Renaming, value, pair, object_as, shown_as, IsRenamed}
 use Rattle.snap_laws.proofs.Seen.{seen, vals_as}
 use Rattle.snap_laws.proofs.Combining.{then_equal}
