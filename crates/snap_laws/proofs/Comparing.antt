@@ -29,7 +29,7 @@ use Rattle.snap_laws.proofs.Iterating.{iterating_as, kept_as}
 use Rattle.snap_laws.proofs.Binary.{number_given, unsupported_as, binary_as}
 use Rattle.snap_laws.proofs.Using.{keyed}
 
-is_some_as : {A B : Type 0} (f : A → B) (o : Option A) → is_some (option_map f o) ≡ is_some o
+pub is_some_as : {A B : Type 0} (f : A → B) (o : Option A) → is_some (option_map f o) ≡ is_some o
 is_some_as f (Some a) = refl
 is_some_as f None = refl
 

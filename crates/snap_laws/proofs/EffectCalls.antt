@@ -43,7 +43,7 @@ module _ (r : Renaming) where
   default_shown (Range start stop step) = refl
   default_shown Other = refl
 
-  nones_as : (n : ℕ) → replicate n None ≡ locals_as r (replicate n None)
+  pub nones_as : (n : ℕ) → replicate n None ≡ locals_as r (replicate n None)
   nones_as zero = refl
   nones_as (suc n) = ap (λ z. None ∷ z) (nones_as n)
 

@@ -12,5 +12,6 @@ mod Moving
 mod Printing
 mod Rooms
 pub mod Seen
+mod Stepping
 mod Using
 mod Writing

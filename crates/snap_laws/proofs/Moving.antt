@@ -14,13 +14,13 @@ use Rattle.snap_laws.proofs.Acting.{given_as}
 use Rattle.snap_laws.proofs.EffectCalls.{forgotten, module_stored}
 
 module _ (r : Renaming) where
-  abbrev slots_as : List Slot → List Slot
+  abbrev pub slots_as : List Slot → List Slot
   slots_as slots = map (slot_as r) slots
 
-  abbrev entries_as : List Entry → List Entry
+  abbrev pub entries_as : List Entry → List Entry
   entries_as entries = map (entry_as r) entries
 
-  abbrev frames_as : List Frame → List Frame
+  abbrev pub frames_as : List Frame → List Frame
   frames_as frames = map (frame_as r) frames
 
   remark_as : (p : ℕ) (es : List Entry) → map (remark p) (entries_as es) ≡ entries_as (map (remark p) es)
