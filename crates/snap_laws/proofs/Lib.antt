@@ -5,6 +5,7 @@ pub mod Changes
 pub mod Combining
 mod Comparing
 mod EffectCalls
+mod FileConstants
 mod Iterating
 mod Least
 mod MethodCalls

@@ -3,11 +3,24 @@ use Rattle.std.specs.Prelude.{◌≡◌, ℕ, List, map, Some}
 use Rattle.std.specs.Option.{option_map}
 use Rattle.bc_machine.specs.mpy_base.Val.{Val, PlainWorld}
 use Rattle.bc_machine.specs.py_effects.Ends.{End}
-use Rattle.bc_machine.specs.Library.{Name, Item, Loads, Line, Library, code_at}
+use Rattle.bc_machine.specs.mpy_tree.Raw as raw
+use Rattle.bc_machine.specs.mpy_tree.Resolved.{ResolvedModule, Resolves}
+use Rattle.bc_machine.specs.Library.{Name, Item, Loads, Line, Module, Holds, Library, entry_in, code_at, module_of}
 use Rattle.bc_machine.specs.State.{Slot, Value, Null, Object, Iter, KeptReturn, KeptJump, Entry, Role, Main, Called, Imported, Frame, State, Running, Halted, Stuck}
 use Rattle.bc_machine.specs.Step.{line_at}
 use Rattle.snap_laws.specs.Renamed.{Renaming, value}
 use Rattle.snap_laws.specs.Worlds.{IsWorld, locals_as, end_as}
+
+-- the module is the one that a file holds
+pub record IsOfFile (m : Module) : Type 0 where
+  pub held : raw.Module
+  pub tree : ResolvedModule
+  pub resolves : Resolves held tree
+  pub is : m ≡ module_of tree
+
+-- each module of the library is one that a file holds
+pub record OfFiles (library : Library) : Type 0 where
+  pub files : (name : Name) (m : Module) → entry_in library name ≡ Some (Holds m) → IsOfFile m
 
 module _ (r : Renaming) where
   -- a slot of a frame

@@ -8,7 +8,12 @@ ghost use Rattle.bc_machine.specs.Step.{step};
 ghost use Rattle.bc_machine.specs.Machine.{steps, run_of};
 ghost use Rattle.snap_laws.specs.Renamed.{Renaming};
 ghost use Rattle.snap_laws.specs.Worlds.{IsWorld, end_as};
-ghost use Rattle.snap_laws.specs.States.{IsState, KeepsConstants};
+ghost use Rattle.snap_laws.specs.States.{OfFiles, IsState, KeepsConstants};
+
+/// No constant of a file is an object, so a library of files keeps its constants.
+pub fn constants_law()
+    ensures { (r : Renaming) (library : Library) → OfFiles library → KeepsConstants r library }
+{}
 
 /// Behind a step, and behind any number of steps, the states still differ by the same renaming.
 pub fn step_law()
