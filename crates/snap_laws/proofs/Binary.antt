@@ -27,13 +27,13 @@ module _ (r : Renaming) (h k : PlainHeap) (is : IsRenamed r h k) where
   number_given (Ok z) = given r (value r) h k is (Int z) (Int z) refl
   number_given (Err fault) = raised r (value r) h k is (Arithmetic fault) (Arithmetic fault) refl
 
-  pub unsupported_as : {A : Type 0} (f : A → A) (method : List ℕ) (a b : Val) → IsOutcome r f
-      (unsupported h method a b) (unsupported k method (value r a) (value r b))
+  pub unsupported_as : {A : Type 0} (f : A → A) (method : List ℕ) (a b : Val)
+      → IsOutcome r f (unsupported h method a b) (unsupported k method (value r a) (value r b))
   unsupported_as f method a b =
       raised r f h k is (Unsupported method (type_name h a) (type_name h b))
-          (Unsupported method (type_name k (value r a)) (type_name k (value r b)))
+      (Unsupported method (type_name k (value r a)) (type_name k (value r b)))
       (ap (λ z. Unsupported method z (type_name k (value r b))) (type_as r h k is a) ∙ ap
-          (Unsupported method (type_name h a)) (type_as r h k is b))
+      (Unsupported method (type_name h a)) (type_as r h k is b))
 
   text_as : (bytes : List ℕ) → Same (making_text h bytes) (making_text k bytes)
   text_as bytes = text_made r h k is bytes
@@ -48,16 +48,16 @@ module _ (r : Renaming) (h k : PlainHeap) (is : IsRenamed r h k) where
   joined_list xs ys =
       list_as r h k is (xs ++ ys) (map (value r) xs ++ map (value r) ys) (sym (map-append (value r) xs ys))
 
-  repeated_tuple : (n : ℕ) (xs : List Val) → Same (making_tuple h (repeat n xs))
-      (making_tuple k (repeat n (map (value r) xs)))
+  repeated_tuple : (n : ℕ) (xs : List Val)
+      → Same (making_tuple h (repeat n xs)) (making_tuple k (repeat n (map (value r) xs)))
   repeated_tuple n xs = tuple_as r h k is (repeat n xs) (repeat n (map (value r) xs)) (map_repeat (value r) n xs)
 
-  repeated_list : (n : ℕ) (xs : List Val) → Same (making_list h (repeat n xs))
-      (making_list k (repeat n (map (value r) xs)))
+  repeated_list : (n : ℕ) (xs : List Val)
+      → Same (making_list h (repeat n xs)) (making_list k (repeat n (map (value r) xs)))
   repeated_list n xs = list_as r h k is (repeat n xs) (repeat n (map (value r) xs)) (map_repeat (value r) n xs)
 
-  binary_shown_as : (op : Operator) (a b : Val) (s t : Shown) → Same (binary_shown h op a b s t)
-      (binary_shown k op (value r a) (value r b) (shown_as r s) (shown_as r t))
+  binary_shown_as : (op : Operator) (a b : Val) (s t : Shown)
+      → Same (binary_shown h op a b s t) (binary_shown k op (value r a) (value r b) (shown_as r s) (shown_as r t))
   binary_shown_as op a b (Number x) (Number y) = number_given (number_answer op x y)
   binary_shown_as Add a b (Text s) (Text t) = text_as (s ++ t)
   binary_shown_as Add a b (Tuple xs) (Tuple ys) = joined_tuple xs ys
@@ -73,7 +73,7 @@ module _ (r : Renaming) (h k : PlainHeap) (is : IsRenamed r h k) where
   pub binary_as : (op : Operator) (a b : Val) → Same (binary h op a b) (binary k op (value r a) (value r b))
   binary_as op a b =
       subst (λ s. Same (binary h op a b) (binary_shown k op (value r a) (value r b) s (shown k (value r b))))
-          (sym (seen r h k is a))
+      (sym (seen r h k is a))
       (subst (λ t. Same (binary h op a b) (binary_shown k op (value r a) (value r b) (shown_as r (shown h a)) t))
-          (sym (seen r h k is b))
+      (sym (seen r h k is b))
       (binary_shown_as op a b (shown h a) (shown h b)))

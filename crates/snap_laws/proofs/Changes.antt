@@ -49,8 +49,8 @@ module _ (r : Renaming) where
   bytes_as (ModuleObject name names) = refl
 
   module _ (h k : PlainHeap) (is : IsRenamed r h k) where
-    set_object : (n m : ℕ) (x : Option (Object Val (List ℕ))) → object
-        (set k.objects (r.to n) (option_map (object_as r) x)) (r.to m) ≡ option_map (object_as r)
+    set_object : (n m : ℕ) (x : Option (Object Val (List ℕ)))
+        → object (set k.objects (r.to n) (option_map (object_as r) x)) (r.to m) ≡ option_map (object_as r)
         (object (set h.objects n x) m)
     set_object n m x =
         elim (cases_eq m n) [
@@ -62,10 +62,16 @@ module _ (r : Renaming) where
                     ∙ ap (option_map (object_as r)) (sym (get_or-set_same h.objects n x None lt))
                 | inr ge ↦ (let same : r.to n ≡ n = r.fixed n (omega (arith, is.above, ge)) in
                     get_or_past (set k.objects (r.to n) (option_map (object_as r) x)) (r.to n) None
-                        (omega (arith, same, ge, is.cells, length-set k.objects (r.to n)
-                        (option_map (object_as r) x)))
+                    (omega (
+                      arith,
+                      same,
+                      ge,
+                      is.cells,
+                      length-set k.objects (r.to n)
+                          (option_map (object_as r) x),
+                    ))
                     ∙ ap (option_map (object_as r)) (sym
-                        (get_or_past (set h.objects n x) n None (omega (arith, ge, length-set h.objects n x)))))
+                    (get_or_past (set h.objects n x) n None (omega (arith, ge, length-set h.objects n x)))))
               ])
           | inr ne ↦ get_or-set_other k.objects (r.to n) (r.to m) (option_map (object_as r) x) None
               (λ e. ne (injective m n e))
@@ -73,9 +79,9 @@ module _ (r : Renaming) where
         ]
 
     -- an object in the place of one, or what is there already
-    pub set_option : (n : ℕ) (x : Option (Object Val (List ℕ))) → IsRenamed r
-        (record h { objects = set h.objects n x }) (record k
-        { objects = set k.objects (r.to n) (option_map (object_as r) x) })
+    pub set_option : (n : ℕ) (x : Option (Object Val (List ℕ)))
+        → IsRenamed r (record h { objects = set h.objects n x })
+        (record k { objects = set k.objects (r.to n) (option_map (object_as r) x) })
     set_option n x = record {
       objects = λ m. set_object n m x;
       cells = length-set k.objects (r.to n) (option_map (object_as r) x) ∙ is.cells ∙ sym (length-set h.objects n x);
@@ -85,13 +91,13 @@ module _ (r : Renaming) where
       above = omega (arith, is.above, length-set h.objects n x);
     }
 
-    pub set_as : (n : ℕ) (o : Object Val (List ℕ)) → IsRenamed r (with_object h n o)
-        (with_object k (r.to n) (object_as r o))
+    pub set_as : (n : ℕ) (o : Object Val (List ℕ))
+        → IsRenamed r (with_object h n o) (with_object k (r.to n) (object_as r o))
     set_as n o = set_option n (Some o)
 
     -- cells behind those that are used, alike in both
-    longer : (old new : Objs) → ((i : ℕ) → object new i ≡ option_map (object_as r) (object old i)) → (m : ℕ) → object
-        (k.objects ++ new) (r.to m) ≡ option_map (object_as r) (object (h.objects ++ old) m)
+    longer : (old new : Objs) → ((i : ℕ) → object new i ≡ option_map (object_as r) (object old i)) → (m : ℕ)
+        → object (k.objects ++ new) (r.to m) ≡ option_map (object_as r) (object (h.objects ++ old) m)
     longer old new alike m =
         elim (cases_lt m (length h.objects)) [
           | inl lt ↦ get_or_append_left k.objects new None (r.to m)
@@ -102,7 +108,7 @@ module _ (r : Renaming) where
               ∙ get_or-append_right k.objects new (length h.objects) m None is.cells ge
               ∙ alike (m - length h.objects)
               ∙ ap (option_map (object_as r)) (sym (get_or-append_right h.objects old (length h.objects) m None refl
-                  ge)))
+              ge)))
         ]
 
     nones : (n i : ℕ) → object (replicate n None) i ≡ option_map (object_as r) (object (replicate n None) i)
@@ -120,22 +126,25 @@ module _ (r : Renaming) where
           above = omega (arith, is.above, length-append h.objects more);
         }
 
-    one_more : (o : Object Val (List ℕ)) (n i : ℕ) → object (Some (object_as r o) ∷ replicate n None) i ≡ option_map
-        (object_as r) (object (Some o ∷ replicate n None) i)
+    one_more : (o : Object Val (List ℕ)) (n i : ℕ)
+        → object (Some (object_as r o) ∷ replicate n None) i ≡ option_map (object_as r)
+        (object (Some o ∷ replicate n None) i)
     one_more o n zero = refl
     one_more o n (suc i) = nones n i
 
-    made_with : (o : Object Val (List ℕ)) (n : ℕ) → n ≡ more_cells o → IsRenamed r (with_made h o)
-        (record k { objects = k.objects ++ (Some (object_as r o) ∷ replicate n None); bytes = k.bytes + bytes_of
-        (object_as r o) })
+    made_with : (o : Object Val (List ℕ)) (n : ℕ) → n ≡ more_cells o
+        → IsRenamed r (with_made h o) (record k {
+          objects = k.objects ++ (Some (object_as r o) ∷ replicate n None);
+          bytes = k.bytes + bytes_of (object_as r o);
+        })
     made_with o n e =
         let old : Objs = Some o ∷ replicate (more_cells o) None in
         let new : Objs = Some (object_as r o) ∷ replicate n None in
         let alike : (i : ℕ) → object new i ≡ option_map (object_as r) (object old i) =
-            subst (λ z. (i : ℕ) → object new i ≡ option_map (object_as r) (object (Some o ∷ replicate z None) i)) e
-            (one_more o n) in
+        subst (λ z. (i : ℕ) → object new i ≡ option_map (object_as r) (object (Some o ∷ replicate z None) i)) e
+        (one_more o n) in
         let long : length new ≡ length old =
-            ap (λ z. length (Some (object_as r o) ∷ replicate z None)) e ∙ suc_length (more_cells o) in
+        ap (λ z. length (Some (object_as r o) ∷ replicate z None)) e ∙ suc_length (more_cells o) in
         record {
           objects = longer old new alike;
           cells = omega (arith, length-append k.objects new, length-append h.objects old, is.cells, long);

@@ -18,18 +18,18 @@ use Rattle.snap_laws.proofs.Combining.{given, raised, type_as, text_made, texts_
 
 module _ (r : Renaming) where
   -- values that no renaming changes
-  fixed_as : {A : Type 0} (g : A → Val) → ((a : A) → value r (g a) ≡ g a) → (xs : List A) → map g xs ≡ map (value r)
-      (map g xs)
+  fixed_as : {A : Type 0} (g : A → Val) → ((a : A) → value r (g a) ≡ g a) → (xs : List A)
+      → map g xs ≡ map (value r) (map g xs)
   fixed_as g e [] = refl
   fixed_as g e (x ∷ xs) = ap (λ z. z ∷ map g xs) (sym (e x)) ∙ ap (λ z. value r (g x) ∷ z) (fixed_as g e xs)
 
-  pub keys_as : (ps : List (Val × Val)) → map (λ (p : Val × Val). p.0) (map (pair r) ps) ≡ map (value r)
-      (map (λ (p : Val × Val). p.0) ps)
+  pub keys_as : (ps : List (Val × Val))
+      → map (λ (p : Val × Val). p.0) (map (pair r) ps) ≡ map (value r) (map (λ (p : Val × Val). p.0) ps)
   keys_as [] = refl
   keys_as (p ∷ ps) = ap (λ z. value r p.0 ∷ z) (keys_as ps)
 
-  pub values_as : (ps : List (Val × Val)) → map (λ (p : Val × Val). p.1) (map (pair r) ps) ≡ map (value r)
-      (map (λ (p : Val × Val). p.1) ps)
+  pub values_as : (ps : List (Val × Val))
+      → map (λ (p : Val × Val). p.1) (map (pair r) ps) ≡ map (value r) (map (λ (p : Val × Val). p.1) ps)
   values_as [] = refl
   values_as (p ∷ ps) = ap (λ z. value r p.1 ∷ z) (values_as ps)
 
@@ -59,8 +59,8 @@ module _ (r : Renaming) where
   nil_as (Some v) = refl
   nil_as None = refl
 
-  pub item_as : (items : List Val) (at : ℕ) → or_nil (slice_get (map (value r) items) at) ≡ value r
-      (or_nil (slice_get items at))
+  pub item_as : (items : List Val) (at : ℕ)
+      → or_nil (slice_get (map (value r) items) at) ≡ value r (or_nil (slice_get items at))
   item_as items at = ap or_nil (slice_get-map (value r) items at) ∙ nil_as (slice_get items at)
 
   module _ (h k : PlainHeap) (is : IsRenamed r h k) where
@@ -71,19 +71,19 @@ module _ (r : Renaming) where
     length_as v = ap shown_length (seen r h k is v) ∙ length_shown (shown h v)
 
     over_as : {A : Type 0} (f : A → A) (v : Val) (o : Option (List Val)) (next next' : List Val → Outcome A)
-        → ((items : List Val) → IsOutcome r f (next items) (next' (map (value r) items))) → IsOutcome r f
-        (over_items h v o next) (over_items k (value r v) (option_map (map (value r)) o) next')
+        → ((items : List Val) → IsOutcome r f (next items) (next' (map (value r) items)))
+        → IsOutcome r f (over_items h v o next) (over_items k (value r v) (option_map (map (value r)) o) next')
     over_as f v (Some items) next next' on = on items
     over_as f v None next next' on =
         raised r f h k is (NotIterable (type_name h v)) (NotIterable (type_name k (value r v)))
         (ap NotIterable (type_as r h k is v))
 
     pub iterating_as : {A : Type 0} (f : A → A) (v : Val) (next next' : List Val → Outcome A)
-        → ((items : List Val) → IsOutcome r f (next items) (next' (map (value r) items))) → IsOutcome r f
-        (iterating h v next) (iterating k (value r v) next')
+        → ((items : List Val) → IsOutcome r f (next items) (next' (map (value r) items)))
+        → IsOutcome r f (iterating h v next) (iterating k (value r v) next')
     iterating_as f v next next' on =
         subst (λ z. IsOutcome r f (iterating h v next) (over_items k (value r v) z next')) (sym (items_in_as v))
-            (over_as f v (items_in h v) next next' on)
+        (over_as f v (items_in h v) next next' on)
 
     pub iter_as : (v : Val) → IsOutcome r (value r) (use_iter h v) (use_iter k (value r v))
     iter_as v =
@@ -100,7 +100,7 @@ module _ (r : Renaming) where
         (item_as items at)
     shown_item_as at (Pairs pairs) =
         given r (value r) h k is (or_nil (slice_get (map (λ (p : Val × Val). p.0) pairs) at))
-            (or_nil (slice_get (map (λ (p : Val × Val). p.0) (map (pair r) pairs)) at))
+        (or_nil (slice_get (map (λ (p : Val × Val). p.0) (map (pair r) pairs)) at))
         (ap (λ z. or_nil (slice_get z at)) (keys_as pairs) ∙ item_as (map (λ (p : Val × Val). p.0) pairs) at)
     shown_item_as at (Range start stop step) =
         given r (value r) h k is (Int (range_number start step at)) (Int (range_number start step at)) refl
@@ -111,14 +111,15 @@ module _ (r : Renaming) where
         subst (λ s. IsOutcome r (value r) (item_of h v at) (shown_item k at s)) (sym (seen r h k is v))
         (shown_item_as at (shown h v))
 
-  kept_shown : (h k : PlainHeap) → IsRenamed r h k → (items : List Val) (s : Shown) → IsOutcome r (map (value r))
-      (kept_items h items s) (kept_items k (map (value r) items) (shown_as r s))
+  kept_shown : (h k : PlainHeap) → IsRenamed r h k → (items : List Val) (s : Shown)
+      → IsOutcome r (map (value r)) (kept_items h items s) (kept_items k (map (value r) items) (shown_as r s))
   kept_shown h k is items (Text bytes) = texts_made r h k is (map (λ byte. byte ∷ []) bytes)
   kept_shown h k is items _ = given r (map (value r)) h k is items (map (value r) items) refl
 
   -- items as they are kept in heaps behind those in which the iterable is seen
-  pub kept_as : (h k : PlainHeap) → IsRenamed r h k → (i j : PlainHeap) → IsRenamed r i j → (items : List Val)
-      (v : Val) → IsOutcome r (map (value r)) (kept_items i items (shown h v))
+  pub kept_as : (h k : PlainHeap) → IsRenamed r h k → (i j : PlainHeap) → IsRenamed r i j
+      → (items : List Val) (v : Val)
+      → IsOutcome r (map (value r)) (kept_items i items (shown h v))
       (kept_items j (map (value r) items) (shown k (value r v)))
   kept_as h k is i j at items v =
       subst (λ s. IsOutcome r (map (value r)) (kept_items i items (shown h v)) (kept_items j (map (value r) items) s))

@@ -21,7 +21,7 @@ pub walk_all_as : {A B : Type 0} (f : A → A) (wh wk : A → Walk B) → ((a : 
 walk_all_as f wh wk e [] = refl
 walk_all_as f wh wk e (x ∷ xs) =
     then_equal (wh x) (wk (f x)) (λ y. walk_map (λ ys. y ∷ ys) (walk_all wh xs))
-        (λ y. walk_map (λ ys. y ∷ ys) (walk_all wk (map f xs))) (e x)
+    (λ y. walk_map (λ ys. y ∷ ys) (walk_all wk (map f xs))) (e x)
     (λ y. ap (walk_map (λ ys. y ∷ ys)) (walk_all_as f wh wk e xs))
 
 module _ (r : Renaming) (h k : PlainHeap) (is : IsRenamed r h k) where
@@ -39,8 +39,8 @@ module _ (r : Renaming) (h k : PlainHeap) (is : IsRenamed r h k) where
   arguments_as v = ap items_of_tuple (seen r h k is v) ∙ tuple_items (shown h v)
 
   module _ (wh wk : Bool → Val → Walk (List ℕ)) (ih : (raw : Bool) (v : Val) → wk raw (value r v) ≡ wh raw v) where
-    between_as : (o c : List ℕ) (vs : List Val) → texts_between k wk o c (map (value r) vs) ≡ texts_between h wh o c
-        vs
+    between_as : (o c : List ℕ) (vs : List Val)
+        → texts_between k wk o c (map (value r) vs) ≡ texts_between h wh o c vs
     between_as o c vs =
         ap (walk_map (λ texts. o ++ joined (codes ", ") texts ++ c))
         (walk_all_as (value r) (wh false) (wk false) (ih false) vs)
@@ -53,8 +53,8 @@ module _ (r : Renaming) (h k : PlainHeap) (is : IsRenamed r h k) where
     pair_written : (p : Val × Val) → pair_text k wk (pair r p) ≡ pair_text h wh p
     pair_written p =
         then_equal (wh false p.0) (wk false (value r p.0))
-            (λ key. walk_map (λ v. key ++ codes ": " ++ v) (wh false p.1))
-            (λ key. walk_map (λ v. key ++ codes ": " ++ v) (wk false (value r p.1))) (ih false p.0)
+        (λ key. walk_map (λ v. key ++ codes ": " ++ v) (wh false p.1))
+        (λ key. walk_map (λ v. key ++ codes ": " ++ v) (wk false (value r p.1))) (ih false p.0)
         (λ key. ap (walk_map (λ v. key ++ codes ": " ++ v)) (ih false p.1))
 
     dict_written : (ps : List (Val × Val)) → dict_text k wk (map (pair r) ps) ≡ dict_text h wh ps
@@ -62,23 +62,23 @@ module _ (r : Renaming) (h k : PlainHeap) (is : IsRenamed r h k) where
         ap (walk_map (λ texts. codes "{" ++ joined (codes ", ") texts ++ codes "}"))
         (walk_all_as (pair r) (pair_text h wh) (pair_text k wk) pair_written ps)
 
-    exception_said : (args : Val) (vs : List Val) → exception_str k wk (value r args)
-        (map (value r) vs) ≡ exception_str h wh args vs
+    exception_said : (args : Val) (vs : List Val)
+        → exception_str k wk (value r args) (map (value r) vs) ≡ exception_str h wh args vs
     exception_said args [] = refl
     exception_said args (v ∷ []) = ih true v
     exception_said args (v ∷ w ∷ vs) = ih false args
 
-    exception_written : (raw : Bool) (kind : Kind) (args : Val) → exception_text k wk raw kind
-        (value r args) ≡ exception_text h wh raw kind args
+    exception_written : (raw : Bool) (kind : Kind) (args : Val)
+        → exception_text k wk raw kind (value r args) ≡ exception_text h wh raw kind args
     exception_written true kind args =
         ap (exception_str k wk (value r args)) (arguments_as args) ∙ exception_said args
         (items_of_tuple (shown h args))
     exception_written false kind args =
         ap (texts_between k wk (kind_name kind ++ codes "(") (codes ")")) (arguments_as args) ∙ between_as
-            (kind_name kind ++ codes "(") (codes ")") (items_of_tuple (shown h args))
+        (kind_name kind ++ codes "(") (codes ")") (items_of_tuple (shown h args))
 
-    object_written : (raw : Bool) (o : Option (Object Val (List ℕ))) → object_text k wk raw
-        (option_map (object_as r) o) ≡ object_text h wh raw o
+    object_written : (raw : Bool) (o : Option (Object Val (List ℕ)))
+        → object_text k wk raw (option_map (object_as r) o) ≡ object_text h wh raw o
     object_written raw (Some (ListObject items room)) = between_as (codes "[") (codes "]") items
     object_written raw (Some (TupleObject items)) = tuple_written items
     object_written raw (Some (TextObject bytes)) = refl

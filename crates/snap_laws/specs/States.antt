@@ -1,7 +1,7 @@
 -- States of the machine whose objects have other numbers.
 use Rattle.std.specs.Prelude.{◌≡◌, ℕ, List, map, Some}
 use Rattle.std.specs.Option.{option_map}
-use Rattle.bc_machine.specs.mpy_base.Val.{Val, PlainWorld}
+use Rattle.bc_machine.specs.mpy_base.Val.{PlainWorld}
 use Rattle.bc_machine.specs.py_effects.Ends.{End}
 use Rattle.bc_machine.specs.mpy_tree.Raw as raw
 use Rattle.bc_machine.specs.mpy_tree.Resolved.{ResolvedModule, Resolves}
@@ -44,11 +44,18 @@ module _ (r : Renaming) where
 
   -- a call
   abbrev pub frame_as : Frame → Frame
-  frame_as f = record f { locals = locals_as r f.locals; slots = map slot_as f.slots; entries = map entry_as f.entries; names = r.to f.names; role = role_as f.role }
+  frame_as f = record f {
+    locals = locals_as r f.locals;
+    slots = map slot_as f.slots;
+    entries = map entry_as f.entries;
+    names = r.to f.names;
+    role = role_as f.role;
+  }
 
   -- the second state is the first one with other numbers
   pub data IsState : State → State → Type 0 where
-    runs : {paid : ℕ} {frame : Frame} {frames : List Frame} {w u : PlainWorld} → IsWorld r w u → IsState (Running paid frame frames w) (Running paid (frame_as frame) (map frame_as frames) u)
+    runs : {paid : ℕ} {frame : Frame} {frames : List Frame} {w u : PlainWorld} → IsWorld r w u
+        → IsState (Running paid frame frames w) (Running paid (frame_as frame) (map frame_as frames) u)
     halts : {end : End} {w u : PlainWorld} → IsWorld r w u → IsState (Halted end w) (Halted (end_as r end) u)
     sticks : {w u : PlainWorld} → IsWorld r w u → IsState (Stuck w) (Stuck u)
 

@@ -1,5 +1,5 @@
 -- What effects give over worlds whose objects have other numbers.
-use Rattle.std.specs.Prelude.{◌≡◌, ℕ, List, map, Option, Result, Ok, Err}
+use Rattle.std.specs.Prelude.{◌≡◌, ℕ, List, map, Result, Ok, Err}
 use Rattle.std.specs.Option.{option_map}
 use Rattle.bc_machine.specs.mpy_base.Val.{Val, PlainWorld}
 use Rattle.bc_machine.specs.py_primitives.Faults.{Fault}
