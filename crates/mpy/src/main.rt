@@ -15,7 +15,7 @@ use std::process::ExitCode;
 use std::{env, io};
 
 /// What `mpy --version` prints: the version, and the kit that proves and builds it.
-const VERSION: &[u8] = b"mpy 0.1.0 (rattle-kit-13b)\n";
+const VERSION: &[u8] = b"mpy 0.1.0 (rattle-kit-13f)\n";
 
 /// The words after the program's own name.
 fn words(rt: &HostRuntime) -> io::Result<Vec<String>> {
