@@ -4,12 +4,12 @@ use Rattle.std.specs.Prelude.{nat_eq, bytes_eq}
 use Rattle.std.specs.Option.{option_map}
 use Rattle.std.proofs.lemmas.List.{length-map}
 use Rattle.std.proofs.lemmas.Bool.{eqb-true, eqb-false, eq-eqb, ne_eqb}
-use Rattle.py_primitives.specs.mpy_base.declared.limits.TheConstants.{MAX_WALK_DEPTH}
-use Rattle.py_primitives.specs.mpy_base.World.{Object, ListObject, TupleObject, TextObject, DictObject, FunctionObject, ExceptionObject, MethodObject, RangeObject, ModuleObject, object}
-use Rattle.py_primitives.specs.mpy_base.Val.{Val, Vals, Only, Then, Nil, Truth, Int, Str, Fixed, Empty, Built, At, vals}
-use Rattle.py_primitives.specs.py_values.Shown.{PlainHeap, Shown, Nothing, Number, Text, Tuple, Items, Pairs, Range, Other, shown_object, shown, shown_truth, truth, is_empty}
-use Rattle.py_primitives.specs.py_values.Keys.{shown_key, key_of, is_same_key, has_key, value_of_key}
-use Rattle.py_primitives.specs.py_values.Equality.{Walk, answers, if_so, is_same, all_equal, equal_items, equal_found, all_found, equal_pairs, equal_shown, equal_within, equal, visit}
+use Rattle.bc_machine.specs.mpy_base.declared.limits.TheConstants.{MAX_WALK_DEPTH}
+use Rattle.bc_machine.specs.mpy_base.World.{Object, ListObject, TupleObject, TextObject, DictObject, FunctionObject, ExceptionObject, MethodObject, RangeObject, ModuleObject, object}
+use Rattle.bc_machine.specs.mpy_base.Val.{Val, Vals, Only, Then, Nil, Truth, Int, Str, Fixed, Empty, Built, At, vals}
+use Rattle.bc_machine.specs.py_values.Shown.{PlainHeap, Shown, Nothing, Number, Text, Tuple, Items, Pairs, Range, Other, shown_object, shown, shown_truth, truth, is_empty}
+use Rattle.bc_machine.specs.py_values.Keys.{shown_key, key_of, is_same_key, has_key, value_of_key}
+use Rattle.bc_machine.specs.py_values.Equality.{Walk, answers, if_so, is_same, all_equal, equal_items, equal_found, all_found, equal_pairs, equal_shown, equal_within, equal, visit}
 use Rattle.snap_laws.specs.Renamed.{Renaming, value, items_as, pair, object_as, shown_as, IsRenamed}
 
 module _ (r : Renaming) where

@@ -1,2 +1,4 @@
 pub mod Outcomes
 pub mod Renamed
+pub mod States
+pub mod Worlds

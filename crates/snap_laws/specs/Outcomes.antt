@@ -1,12 +1,12 @@
 -- What primitives give over heaps whose objects have other numbers.
 use Rattle.std.specs.Prelude.{◌≡◌, Result, Ok, Err}
 use Rattle.std.specs.declared.cmp.Ordering.{Ordering}
-use Rattle.py_primitives.specs.mpy_base.Val.{Val}
-use Rattle.py_primitives.specs.Faults.{Fault, NoKey}
-use Rattle.py_primitives.specs.Outcome.{Stop, Raises, Full, Outcome}
-use Rattle.py_primitives.specs.Order.{Unordered}
-use Rattle.py_primitives.specs.Output.{PortOutcome}
-use Rattle.py_primitives.specs.Uses.{Attribute, Found, Method, Absent}
+use Rattle.bc_machine.specs.mpy_base.Val.{Val}
+use Rattle.bc_machine.specs.py_primitives.Faults.{Fault, NoKey}
+use Rattle.bc_machine.specs.py_primitives.Outcome.{Stop, Raises, Full, Outcome}
+use Rattle.bc_machine.specs.py_primitives.Order.{Unordered}
+use Rattle.bc_machine.specs.py_primitives.Output.{PortOutcome}
+use Rattle.bc_machine.specs.py_primitives.Uses.{Attribute, Found, Method, Absent}
 use Rattle.snap_laws.specs.Renamed.{Renaming, IsRenamed, value}
 
 module _ (r : Renaming) where

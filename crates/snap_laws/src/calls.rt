@@ -1,12 +1,12 @@
 //! Calls of built-ins over heaps whose objects have other numbers.
 
 ghost use Rattle.std.specs.Prelude.{List, map};
-ghost use Rattle.py_primitives.specs.mpy_base.declared.builtin.Builtin.{Builtin};
-ghost use Rattle.py_primitives.specs.mpy_base.Val.{Val};
-ghost use Rattle.py_primitives.specs.py_values.Shown.{PlainHeap};
-ghost use Rattle.py_primitives.specs.Faults.{Fault};
-ghost use Rattle.py_primitives.specs.Outcome.{making_fault};
-ghost use Rattle.py_primitives.specs.Calls.{call};
+ghost use Rattle.bc_machine.specs.mpy_base.declared.builtin.Builtin.{Builtin};
+ghost use Rattle.bc_machine.specs.mpy_base.Val.{Val};
+ghost use Rattle.bc_machine.specs.py_values.Shown.{PlainHeap};
+ghost use Rattle.bc_machine.specs.py_primitives.Faults.{Fault};
+ghost use Rattle.bc_machine.specs.py_primitives.Outcome.{making_fault};
+ghost use Rattle.bc_machine.specs.py_primitives.Calls.{call};
 ghost use Rattle.snap_laws.specs.Renamed.{Renaming, IsRenamed, value, pair};
 ghost use Rattle.snap_laws.specs.Outcomes.{IsOutcome, fault_as};
 

@@ -1,11 +1,11 @@
 //! What a program sees of values whose objects have other numbers.
 
 ghost use Rattle.std.specs.Prelude.{◌≡◌, ℕ, List};
-ghost use Rattle.py_primitives.specs.mpy_base.Val.{Val, At};
-ghost use Rattle.py_primitives.specs.mpy_base.Weights.{used, with_made, with_used};
-ghost use Rattle.py_primitives.specs.mpy_base.World.{Object, with_object};
-ghost use Rattle.py_primitives.specs.py_values.Shown.{PlainHeap, shown, truth};
-ghost use Rattle.py_primitives.specs.py_values.Equality.{equal};
+ghost use Rattle.bc_machine.specs.mpy_base.Val.{Val, At};
+ghost use Rattle.bc_machine.specs.mpy_base.Weights.{used, with_made, with_used};
+ghost use Rattle.bc_machine.specs.mpy_base.World.{Object, with_object};
+ghost use Rattle.bc_machine.specs.py_values.Shown.{PlainHeap, shown, truth};
+ghost use Rattle.bc_machine.specs.py_values.Equality.{equal};
 ghost use Rattle.snap_laws.specs.Renamed.{Renaming, IsRenamed, value, object_as, shown_as};
 
 /// What a program sees of a value is what it sees of the renamed one, and truth and equality are the same.

@@ -2,10 +2,10 @@
 
 ghost use Rattle.std.specs.Prelude.{◌≡◌, ℕ, map};
 ghost use Rattle.std.specs.Option.{option_map};
-ghost use Rattle.py_primitives.specs.mpy_base.Val.{Val};
-ghost use Rattle.py_primitives.specs.py_values.Shown.{PlainHeap};
-ghost use Rattle.py_primitives.specs.Iterables.{items_in, length_of, item_of, use_iter};
-ghost use Rattle.py_primitives.specs.Uses.{unpack};
+ghost use Rattle.bc_machine.specs.mpy_base.Val.{Val};
+ghost use Rattle.bc_machine.specs.py_values.Shown.{PlainHeap};
+ghost use Rattle.bc_machine.specs.py_primitives.Iterables.{items_in, length_of, item_of, use_iter};
+ghost use Rattle.bc_machine.specs.py_primitives.Uses.{unpack};
 ghost use Rattle.snap_laws.specs.Renamed.{Renaming, IsRenamed, value};
 ghost use Rattle.snap_laws.specs.Outcomes.{IsOutcome};
 

@@ -3,9 +3,11 @@
 #![tactic(auto)]
 
 mod calls;
+mod effects;
 mod flow;
 mod heaps;
 mod iterables;
+mod machine;
 mod methods;
 mod operators;
 mod outputs;
@@ -13,9 +15,11 @@ mod texts;
 mod uses;
 
 pub use calls::{calls_law, faults_law};
+pub use effects::{callees_law, effects_law, modules_law, names_law, raises_law};
 pub use flow::{least_law, rooms_law};
 pub use heaps::{heap_law, sight_law};
 pub use iterables::iterables_law;
+pub use machine::{constants_law, states_law, step_law};
 pub use methods::methods_law;
 pub use operators::{comparisons_law, operator_law, operators_law};
 pub use outputs::output_law;

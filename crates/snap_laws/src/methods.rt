@@ -1,10 +1,10 @@
 //! Calls of methods over heaps whose objects have other numbers.
 
 ghost use Rattle.std.specs.Prelude.{List, map};
-ghost use Rattle.py_primitives.specs.mpy_base.declared.builtin.Builtin.{Builtin};
-ghost use Rattle.py_primitives.specs.mpy_base.Val.{Val};
-ghost use Rattle.py_primitives.specs.py_values.Shown.{PlainHeap};
-ghost use Rattle.py_primitives.specs.Methods.{call_method};
+ghost use Rattle.bc_machine.specs.mpy_base.declared.builtin.Builtin.{Builtin};
+ghost use Rattle.bc_machine.specs.mpy_base.Val.{Val};
+ghost use Rattle.bc_machine.specs.py_values.Shown.{PlainHeap};
+ghost use Rattle.bc_machine.specs.py_primitives.Methods.{call_method};
 ghost use Rattle.snap_laws.specs.Renamed.{Renaming, IsRenamed, value, pair};
 ghost use Rattle.snap_laws.specs.Outcomes.{IsOutcome};
 

@@ -1,11 +1,11 @@
 //! Operators over heaps whose objects have other numbers.
 
 ghost use Rattle.std.specs.Prelude.{◌≡◌};
-ghost use Rattle.py_primitives.specs.mpy_base.Val.{Val};
-ghost use Rattle.py_primitives.specs.py_values.Shown.{PlainHeap};
-ghost use Rattle.py_primitives.specs.Walks.{walk_map};
-ghost use Rattle.py_primitives.specs.Order.{Sign, order};
-ghost use Rattle.py_primitives.specs.Operators.{Operator, binary, in_place, UnaryOperator, unary, unary_not, op_eq, op_ne, op_order, op_is, op_contains, op_match};
+ghost use Rattle.bc_machine.specs.mpy_base.Val.{Val};
+ghost use Rattle.bc_machine.specs.py_values.Shown.{PlainHeap};
+ghost use Rattle.bc_machine.specs.py_primitives.Walks.{walk_map};
+ghost use Rattle.bc_machine.specs.py_primitives.Order.{Sign, order};
+ghost use Rattle.bc_machine.specs.py_primitives.Operators.{Operator, binary, in_place, UnaryOperator, unary, unary_not, op_eq, op_ne, op_order, op_is, op_contains, op_match};
 ghost use Rattle.snap_laws.specs.Renamed.{Renaming, IsRenamed, value};
 ghost use Rattle.snap_laws.specs.Outcomes.{IsOutcome, order_as};
 

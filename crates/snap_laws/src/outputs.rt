@@ -1,11 +1,11 @@
 //! What is printed over heaps whose objects have other numbers, and what ports are told.
 
 ghost use Rattle.std.specs.Prelude.{List, map};
-ghost use Rattle.py_primitives.specs.mpy_base.declared.builtin.Builtin.{Builtin};
-ghost use Rattle.py_primitives.specs.mpy_base.World.{PortState};
-ghost use Rattle.py_primitives.specs.mpy_base.Val.{Val};
-ghost use Rattle.py_primitives.specs.py_values.Shown.{PlainHeap};
-ghost use Rattle.py_primitives.specs.Output.{printed, call_port};
+ghost use Rattle.bc_machine.specs.mpy_base.declared.builtin.Builtin.{Builtin};
+ghost use Rattle.bc_machine.specs.mpy_base.World.{PortState};
+ghost use Rattle.bc_machine.specs.mpy_base.Val.{Val};
+ghost use Rattle.bc_machine.specs.py_values.Shown.{PlainHeap};
+ghost use Rattle.bc_machine.specs.py_primitives.Output.{printed, call_port};
 ghost use Rattle.snap_laws.specs.Renamed.{Renaming, IsRenamed, value, pair};
 ghost use Rattle.snap_laws.specs.Outcomes.{IsOutcome, IsPortOutcome};
 

@@ -1,9 +1,9 @@
 //! Texts of values over heaps whose objects have other numbers.
 
 ghost use Rattle.std.specs.Prelude.{◌≡◌};
-ghost use Rattle.py_primitives.specs.mpy_base.Val.{Val};
-ghost use Rattle.py_primitives.specs.py_values.Shown.{PlainHeap};
-ghost use Rattle.py_primitives.specs.Texts.{str_of, repr_of};
+ghost use Rattle.bc_machine.specs.mpy_base.Val.{Val};
+ghost use Rattle.bc_machine.specs.py_values.Shown.{PlainHeap};
+ghost use Rattle.bc_machine.specs.py_primitives.Texts.{str_of, repr_of};
 ghost use Rattle.snap_laws.specs.Renamed.{Renaming, IsRenamed, value};
 
 /// No text tells the number of an object.

@@ -1,9 +1,9 @@
 //! Indexes and attributes over heaps whose objects have other numbers.
 
 ghost use Rattle.std.specs.Prelude.{◌≡◌, ℕ, List};
-ghost use Rattle.py_primitives.specs.mpy_base.Val.{Val};
-ghost use Rattle.py_primitives.specs.py_values.Shown.{PlainHeap};
-ghost use Rattle.py_primitives.specs.Uses.{get_item, set_item, delete_item, attribute, get_attr, set_attr};
+ghost use Rattle.bc_machine.specs.mpy_base.Val.{Val};
+ghost use Rattle.bc_machine.specs.py_values.Shown.{PlainHeap};
+ghost use Rattle.bc_machine.specs.py_primitives.Uses.{get_item, set_item, delete_item, attribute, get_attr, set_attr};
 ghost use Rattle.snap_laws.specs.Renamed.{Renaming, IsRenamed, value};
 ghost use Rattle.snap_laws.specs.Outcomes.{IsOutcome, attribute_as};
 
