@@ -16,3 +16,9 @@ pub mod Settling
 pub mod Stressing
 pub mod Ended
 pub mod Based
+pub mod UnitImports
+pub mod Members
+pub mod Loading
+pub mod FilePrograms
+pub mod FilesMean
+mod Alone

@@ -1,3 +1,5 @@
 pub mod Once
 pub mod Laws
 pub mod Runs
+pub mod AskedFor
+pub mod Programs
