@@ -1,4 +1,5 @@
 mod Acting
+mod Beginning
 mod Binary
 mod BuiltinCalls
 pub mod Changes
@@ -6,6 +7,10 @@ pub mod Combining
 mod Comparing
 mod EffectCalls
 mod FileConstants
+mod Filling
+mod FillingCalls
+mod FillingEffects
+mod Going
 mod Iterating
 mod Least
 mod MethodCalls

@@ -1,3 +1,5 @@
+pub mod Filled
+pub mod Kept
 pub mod Outcomes
 pub mod Renamed
 pub mod States

@@ -1,5 +1,5 @@
 //! Laws on states that are saved and loaded again: the least assignment of a code stands for each other one, and a heap whose objects have
-//! other numbers is seen the same.
+//! other numbers is seen the same. And what each state of a run keeps, which a reader of saved states asks.
 #![tactic(auto)]
 
 mod calls;
@@ -7,6 +7,7 @@ mod effects;
 mod flow;
 mod heaps;
 mod iterables;
+mod kept;
 mod machine;
 mod methods;
 mod operators;
@@ -19,6 +20,7 @@ pub use effects::{callees_law, effects_law, modules_law, names_law, raises_law};
 pub use flow::{least_law, rooms_law};
 pub use heaps::{heap_law, sight_law};
 pub use iterables::iterables_law;
+pub use kept::{bytes_law, filled_law, paid_law, waits_law};
 pub use machine::{constants_law, states_law, step_law};
 pub use methods::methods_law;
 pub use operators::{comparisons_law, operator_law, operators_law};
