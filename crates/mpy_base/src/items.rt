@@ -80,11 +80,26 @@ impl<T> Items<T> {
 }
 
 impl<T: Drop> Items<T> {
-    /// Puts the element at the end.
+    /// Makes room for one more element and no others, where there is none.
+    #[cold]
+    #[inline(never)]
+    fn make_room(&mut self) -> Result<(), NoMemory>
+        ensures { self.new ≡ self.old }
+    {
+        self.items.reserve_exact(1)?;
+        Ok(())
+    }
+
+    /// Puts the element at the end. The list gets room for one element, then for two, then for four and for twice as many each
+    /// time: most lists of a tree have one element or two.
+    #[inline]
     pub fn push(&mut self, item: T) -> Result<(), NoMemory>
         ensures ok { OnOk result (self.new ≡ self.old ++ item ∷ []) }
         ensures err { OnErr result (self.new ≡ self.old) }
     {
+        if self.items.len() < 2 {
+            self.make_room()?;
+        }
         self.items.push(item)?;
         Ok(())
     }
