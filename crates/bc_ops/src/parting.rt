@@ -5,8 +5,7 @@ ghost use Rattle.std.specs.List.Sorted.{IsStrictlyIncreasing};
 ghost use Rattle.bc_ops.specs.declared.listing.Item.{Item};
 ghost use Rattle.bc_ops.specs.Listing as specs;
 ghost use Rattle.bc_ops.specs.Listing.{IsListOf, Lists};
-ghost use Rattle.bc_ops.specs.Parting as parting;
-ghost use Rattle.bc_ops.specs.Parting.{IsParted};
+ghost use Rattle.bc_ops.specs.Parting.{IsParted, placed};
 
 use crate::decoding::decode_at;
 use crate::instr::Instr;
@@ -82,26 +81,28 @@ fn target(starts: &[usize], offset: i64) -> Target
     }
 }
 
-/// The item, a jump with the position of the instruction that starts at its offset, if one does.
+/// Gives a jump to an offset the position of the instruction that starts there, if one does. Other items aren't written.
 #[inline(always)]
-fn placed(starts: &[usize], item: Item) -> Item
+fn settle(starts: &[usize], item: &mut Item)
     requires { IsStrictlyIncreasing starts.now }
-    ensures { result ≡ parting.placed starts.now item }
+    ensures { item.new ≡ placed starts.now item.old }
 {
-    match item {
-        Item::Jump(op, Target::Offset(offset)) => Item::Jump(op, target(starts, offset)),
-        Item::Unwind(Target::Offset(offset), byte) => Item::Unwind(target(starts, offset), byte),
-        item => item,
+    match *item {
+        Item::Jump(op, Target::Offset(offset)) => *item = Item::Jump(op, target(starts, offset)),
+        Item::Unwind(Target::Offset(offset), byte) => {
+            *item = Item::Unwind(target(starts, offset), byte);
+        }
+        _ => {}
     }
 }
 
 /// Gives each jump the position of the instruction that starts at its offset, if one does.
 fn place(starts: &[usize], items: &mut [Item])
     requires { IsStrictlyIncreasing starts.now }
-    ensures { items.new ≡ map (parting.placed starts.now) items.old }
+    ensures { items.new ≡ map (placed starts.now) items.old }
 {
     for item in items.iter_mut() {
-        *item = placed(starts, *item);
+        settle(starts, item);
     }
 }
 

@@ -194,6 +194,15 @@ pub none_above : (k : ℕ) → high_groups k 0 ≡ []
 none_above zero = refl
 none_above (suc k) = refl
 
+-- a small number is one group
+pub one_group : (n : ℕ) → n < 128 → vuint n ≡ n ∷ []
+unfolding vuint
+one_group n lt =
+    let zero_is : n / 128 ≡ 0 = omega arith in
+    let none : high_groups 4 (n / 128) ≡ [] = ap (high_groups 4) zero_is ∙ none_above 4 in
+    let same : n % 128 ≡ n = omega arith in
+    ap (λ (high : List ℕ). high ++ (n % 128) ∷ []) none ∙ ap (λ (k : ℕ). k ∷ []) same
+
 -- a number that was read, and how many bytes it takes
 abbrev pub found_at : ℕ → ℕ → Result (ℕ × ℕ) VuintFault
 found_at n len = Ok (n, len)

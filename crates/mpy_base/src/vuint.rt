@@ -79,6 +79,10 @@ pub fn write_vuint(out: &mut Vec<u8>, n: u32) -> Result<(), NoMemory>
     ensures ok { OnOk result (out.new.items ≡ out.old.items ++ vuint n) }
     ensures err { OnErr result (out.new.items ≡ out.old.items) }
 {
+    if n < 128 {
+        out.push(n as u8)?;
+        return Ok(());
+    }
     let mut groups = [0u8; MAX_BYTES];
     let mut first = MAX_BYTES - 1;
     groups[first] = (n % 128) as u8;
