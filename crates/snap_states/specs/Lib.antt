@@ -1,0 +1,4 @@
+pub mod Decoded
+pub mod Parts
+pub mod Shapes
+pub mod States

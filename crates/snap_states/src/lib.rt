@@ -1,0 +1,2 @@
+//! Which snapshots are states of a library.
+#![tactic(auto)]
