@@ -50,6 +50,160 @@ use Rattle.snap_states.specs.Parts.{part_kind, cells_of_parts, bytes_of_parts, m
 use Rattle.snap_states.specs.Shapes.{HasDefaults, StandsAt, JumpsLeadOn}
 use Rattle.snap_states.specs.Decoded.{IsDecoded}
 
+-- objects by themselves
+-- =====================
+
+-- the bytes of a text object
+abbrev pub bytes_in_part : ObjectPart → Option (List ℕ)
+bytes_in_part (objects.Text bytes) = Some bytes
+bytes_in_part _ = None
+
+-- how many items a tuple object has
+abbrev pub count_in_part : ObjectPart → Option ℕ
+count_in_part (objects.Tuple items) = Some (length items)
+count_in_part _ = None
+
+-- the name of a module object
+abbrev pub name_in_part : ObjectPart → Option (List ℕ)
+name_in_part (objects.Module name names) = Some name
+name_in_part _ = None
+
+-- a room that holds so many items
+pub record HasItems (room items : ℕ) : Type 0 where
+  pub is_room : IsRoom room
+  pub holds : items ≤ room
+
+-- what an iterator goes over
+abbrev pub IsIterable : Option ObjectKind → Type 0
+IsIterable (Some AList) = Unit {0}
+IsIterable (Some ATuple) = Unit {0}
+IsIterable (Some AText) = Unit {0}
+IsIterable (Some ADict) = Unit {0}
+IsIterable (Some ARange) = Unit {0}
+IsIterable _ = ⊥
+
+-- the name of a built-in that is no method
+pub record IsBuiltin (name : List ℕ) : Type 0 where
+  pub builtin : Builtin
+  pub named : builtin_name builtin ≡ name
+  pub free : method_of builtin ≡ None
+
+-- texts and tuples of the library
+-- ===============================
+
+module _ (shelf : Shelf) where
+  -- a static text, or one of the library's pool
+  abbrev pub IsName : List ℕ → Type 0
+  IsName text = (n : ℕ) × (text_numbered shelf.pool n ≡ Some text)
+
+  -- a constant str that the library holds: such a text, or a str among the constants of a module
+  abbrev pub IsConstant : List ℕ → Type 0
+  IsConstant text = (c : StrNo) × (text_at shelf c ≡ Some text)
+
+  -- a constant tuple that has items
+  pub record IsFixed (m n : ℕ) : Type 0 where
+    pub items : List Value
+    pub are : items_at shelf (numbered m n) ≡ Some items
+    pub some : 0 < length items
+
+-- objects by their numbers
+-- ========================
+
+module _ (s : Snapshot) where
+  -- the kind of the object of a number, if there is one
+  abbrev pub kind_at : ℕ → Option ObjectKind
+  kind_at number = option_map part_kind (slice_get s.objects number)
+
+  -- the object of this number is of this kind
+  abbrev pub IsAt : ObjectKind → ℕ → Type 0
+  IsAt kind number = kind_at number ≡ Some kind
+
+  -- the object m is a module whose names stand in the dict `number`
+  pub record NamesOf (m number : ℕ) : Type 0 where
+    pub name : List ℕ
+    pub is : slice_get s.objects m ≡ Some (objects.Module name number)
+
+  -- the dict of exactly one module
+  pub record IsNamespace (number : ℕ) : Type 0 where
+    pub dict : IsAt ADict number
+    pub owner : ℕ
+    pub owns : NamesOf owner number
+    pub alone : (m : ℕ) → NamesOf m number → m ≡ owner
+
+  -- an object that is no module's dict
+  pub record IsObject (number : ℕ) : Type 0 where
+    pub there : number < length s.objects
+    pub free : (m : ℕ) → NamesOf m number → ⊥
+
+  -- the kind of object that a value is: constants are strs and tuples too
+  abbrev pub kind_of_part : ValuePart → Option ObjectKind
+  kind_of_part parts.None = None
+  kind_of_part parts.False = None
+  kind_of_part parts.True = None
+  kind_of_part (parts.Int z) = None
+  kind_of_part (parts.Object number) = kind_at number
+  kind_of_part (parts.Str text) = Some AText
+  kind_of_part (parts.Fixed m n) = Some ATuple
+  kind_of_part parts.Empty = Some ATuple
+  kind_of_part (parts.Named name) = None
+
+  -- what a value is as a key. True and 1 are one key, and a str is its bytes
+  abbrev pub key_of_part : ValuePart → Option PlainKey
+  key_of_part parts.None = Some NoneKey
+  key_of_part parts.False = Some (NumberKey (pos 0))
+  key_of_part parts.True = Some (NumberKey (pos 1))
+  key_of_part (parts.Int z) = Some (NumberKey z)
+  key_of_part (parts.Object number) = option_map TextKey (option_and_then bytes_in_part (slice_get s.objects number))
+  key_of_part (parts.Str text) = Some (TextKey text)
+  key_of_part (parts.Fixed m n) = None
+  key_of_part parts.Empty = None
+  key_of_part (parts.Named name) = None
+
+  -- the key of the pair at a place
+  abbrev pub key_in_part : List PairPart → ℕ → Option PlainKey
+  key_in_part pairs at = option_and_then (λ p. key_of_part p.key) (slice_get pairs at)
+
+  -- room
+  -- ====
+
+  -- the objects fit what is used, and that the sizes, which have limits
+  pub record HasRoom : Type 0 where
+    pub cells_held : cells_of_parts s.objects ≤ s.used_cells
+    pub bytes_held : bytes_of_parts s.objects ≤ s.used_bytes
+    pub cells : s.used_cells ≤ s.cells
+    pub bytes : s.used_bytes ≤ s.bytes
+    pub few_cells : s.cells ≤ 4194304
+    pub few_bytes : s.bytes ≤ 16777216
+
+  -- registered modules
+  -- ==================
+
+  -- the name of a registered module
+  abbrev pub registered_name : ℕ → Option (List ℕ)
+  registered_name number = option_and_then name_in_part (slice_get s.objects number)
+
+  -- they are modules, and no two have one name
+  pub record AreRegisteredParts : Type 0 where
+    pub modules : All (IsAt AModule) s.modules
+    pub once : (i j m n : ℕ) → i < j → slice_get s.modules i ≡ Some m → slice_get s.modules j ≡ Some n → registered_name m ≡ registered_name n → ⊥
+
+  -- roles and entries
+  -- =================
+
+  -- what the end of a frame does leads to a module where it ends an import
+  abbrev pub IsFineRole : RolePart → Type 0
+  IsFineRole roles.Main = Unit {0}
+  IsFineRole roles.Call = Unit {0}
+  IsFineRole (roles.Import m) = IsAt AModule m
+
+  -- what an entry keeps: an exception, and nothing while it is inactive
+  pub record KeepsFine (e : EntryPart) : Type 0 where
+    pub exception : IfSome e.kept (IsAt AnException)
+    pub active : e.active ≡ false → e.kept ≡ None
+
+-- frames by themselves
+-- ====================
+
 -- what the frame above one waits for takes so many slots of it: those of a call's operands, none for an import, and none where no
 -- frame is above
 abbrev pub Waits : Option RolePart → Item → Action → ℕ → Type 0
@@ -75,75 +229,9 @@ AreEntriesAt offsets [] (x ∷ xs) = ⊥
 AreEntriesAt offsets (e ∷ es) [] = ⊥
 AreEntriesAt offsets (e ∷ es) (x ∷ xs) = IsEntryAt offsets e x × AreEntriesAt offsets es xs
 
--- what an iterator goes over
-abbrev pub IsIterable : Option ObjectKind → Type 0
-IsIterable (Some AList) = Unit {0}
-IsIterable (Some ATuple) = Unit {0}
-IsIterable (Some AText) = Unit {0}
-IsIterable (Some ADict) = Unit {0}
-IsIterable (Some ARange) = Unit {0}
-IsIterable _ = ⊥
-
 module _ (shelf : Shelf) (s : Snapshot) where
   -- values
   -- ======
-
-  -- the kind of the object of a number, if there is one
-  abbrev pub kind_at : ℕ → Option ObjectKind
-  kind_at number = option_map part_kind (slice_get s.objects number)
-
-  -- the object of this number is of this kind
-  abbrev pub IsAt : ObjectKind → ℕ → Type 0
-  IsAt kind number = kind_at number ≡ Some kind
-
-  -- the kind of object that a value is: constants are strs and tuples too
-  abbrev pub kind_of_part : ValuePart → Option ObjectKind
-  kind_of_part parts.None = None
-  kind_of_part parts.False = None
-  kind_of_part parts.True = None
-  kind_of_part (parts.Int z) = None
-  kind_of_part (parts.Object number) = kind_at number
-  kind_of_part (parts.Str text) = Some AText
-  kind_of_part (parts.Fixed m n) = Some ATuple
-  kind_of_part parts.Empty = Some ATuple
-  kind_of_part (parts.Named name) = None
-
-  -- the object m is a module whose names stand in the dict `number`
-  pub record NamesOf (m number : ℕ) : Type 0 where
-    pub name : List ℕ
-    pub is : slice_get s.objects m ≡ Some (objects.Module name number)
-
-  -- the dict of exactly one module
-  pub record IsNamespace (number : ℕ) : Type 0 where
-    pub dict : IsAt ADict number
-    pub owner : ℕ
-    pub owns : NamesOf owner number
-    pub alone : (m : ℕ) → NamesOf m number → m ≡ owner
-
-  -- a static text, or one of the library's pool
-  abbrev pub IsName : List ℕ → Type 0
-  IsName text = (n : ℕ) × (text_numbered shelf.pool n ≡ Some text)
-
-  -- a constant str that the library holds: such a text, or a str among the constants of a module
-  abbrev pub IsConstant : List ℕ → Type 0
-  IsConstant text = (c : StrNo) × (text_at shelf c ≡ Some text)
-
-  -- a constant tuple that has items
-  pub record IsFixed (m n : ℕ) : Type 0 where
-    pub items : List Value
-    pub are : items_at shelf (numbered m n) ≡ Some items
-    pub some : 0 < length items
-
-  -- an object that is no module's dict
-  pub record IsObject (number : ℕ) : Type 0 where
-    pub there : number < length s.objects
-    pub free : (m : ℕ) → NamesOf m number → ⊥
-
-  -- the name of a built-in that is no method
-  pub record IsBuiltin (name : List ℕ) : Type 0 where
-    pub builtin : Builtin
-    pub named : builtin_name builtin ≡ name
-    pub free : method_of builtin ≡ None
 
   -- a value that may stand anywhere
   abbrev pub IsPlain : ValuePart → Type 0
@@ -151,15 +239,15 @@ module _ (shelf : Shelf) (s : Snapshot) where
   IsPlain parts.False = Unit {0}
   IsPlain parts.True = Unit {0}
   IsPlain (parts.Int z) = Unit {0}
-  IsPlain (parts.Object number) = IsObject number
-  IsPlain (parts.Str text) = IsConstant text
-  IsPlain (parts.Fixed m n) = IsFixed m n
+  IsPlain (parts.Object number) = IsObject s number
+  IsPlain (parts.Str text) = IsConstant shelf text
+  IsPlain (parts.Fixed m n) = IsFixed shelf m n
   IsPlain parts.Empty = Unit {0}
   IsPlain (parts.Named name) = IsBuiltin name
 
   -- a value that an iterator may go over
   abbrev pub IsOver : ValuePart → Type 0
-  IsOver v = IsPlain v × IsIterable (kind_of_part v)
+  IsOver v = IsPlain v × IsIterable (kind_of_part s v)
 
   -- the name of a method, and an object of its type
   pub record IsBound (name : List ℕ) (v : ValuePart) : Type 0 where
@@ -167,61 +255,30 @@ module _ (shelf : Shelf) (s : Snapshot) where
     pub named : builtin_name method ≡ name
     pub kind : ObjectKind
     pub method_is : method_of method ≡ Some kind
-    pub value_is : kind_of_part v ≡ Some kind
+    pub value_is : kind_of_part s v ≡ Some kind
     pub plain : IsPlain v
 
   -- objects
   -- =======
 
-  -- the bytes of a text object
-  abbrev pub bytes_in_part : ObjectPart → Option (List ℕ)
-  bytes_in_part (objects.Text bytes) = Some bytes
-  bytes_in_part _ = None
-
-  -- what a value is as a key. True and 1 are one key, and a str is its bytes
-  abbrev pub key_of_part : ValuePart → Option PlainKey
-  key_of_part parts.None = Some NoneKey
-  key_of_part parts.False = Some (NumberKey (pos 0))
-  key_of_part parts.True = Some (NumberKey (pos 1))
-  key_of_part (parts.Int z) = Some (NumberKey z)
-  key_of_part (parts.Object number) = option_map TextKey (option_and_then bytes_in_part (slice_get s.objects number))
-  key_of_part (parts.Str text) = Some (TextKey text)
-  key_of_part (parts.Fixed m n) = None
-  key_of_part parts.Empty = None
-  key_of_part (parts.Named name) = None
-
-  -- the key of the pair at a place
-  abbrev pub key_in_part : List PairPart → ℕ → Option PlainKey
-  key_in_part pairs at = option_and_then (λ p. key_of_part p.key) (slice_get pairs at)
-
   -- a key and a value
   pub record IsFinePair (p : PairPart) : Type 0 where
     pub key : IsPlain p.key
-    pub is_key : IsSome (key_of_part p.key)
+    pub is_key : IsSome (key_of_part s p.key)
     pub value : IsPlain p.value
 
   -- a pair of a namespace: its key is a constant str, and a name
   pub record HasName (p : PairPart) : Type 0 where
     pub text : List ℕ
     pub key_is : p.key ≡ parts.Str text
-    pub name : IsName text
-
-  -- a list, and what holds of a dict too: it has a room that holds its items
-  pub record HasItems (room items : ℕ) : Type 0 where
-    pub is_room : IsRoom room
-    pub holds : items ≤ room
+    pub name : IsName shelf text
 
   -- a dict
   pub record IsFineDict (number room : ℕ) (pairs : List PairPart) : Type 0 where
     pub has : HasItems room (length pairs)
     pub fine : All IsFinePair pairs
-    pub once : (i j : ℕ) → i < j → j < length pairs → key_in_part pairs i ≡ key_in_part pairs j → ⊥
-    pub named : (m : ℕ) → NamesOf m number → All HasName pairs
-
-  -- how many items a tuple has
-  abbrev pub count_in_part : ObjectPart → Option ℕ
-  count_in_part (objects.Tuple items) = Some (length items)
-  count_in_part _ = None
+    pub once : (i j : ℕ) → i < j → j < length pairs → key_in_part s pairs i ≡ key_in_part s pairs j → ⊥
+    pub named : (m : ℕ) → NamesOf s m number → All HasName pairs
 
   -- how many items a value has that is a tuple
   abbrev pub tuple_count : ValuePart → Option ℕ
@@ -239,7 +296,7 @@ module _ (shelf : Shelf) (s : Snapshot) where
   pub record IsFineFunction (m code names : ℕ) (defaults : ValuePart) : Type 0 where
     pub count : ℕ
     pub has : HasDefaults shelf m code count
-    pub namespace : IsNamespace names
+    pub namespace : IsNamespace s names
     pub plain : IsPlain defaults
     pub as_many : (defaults ≡ parts.None) ⊎ (tuple_count defaults ≡ Some count)
 
@@ -247,15 +304,15 @@ module _ (shelf : Shelf) (s : Snapshot) where
   pub record IsFineException (kind : List ℕ) (args : ValuePart) (file name : List ℕ) : Type 0 where
     pub of_kind : Kind
     pub kind_is : kind_name of_kind ≡ kind
-    pub args_are : kind_of_part args ≡ Some ATuple
+    pub args_are : kind_of_part s args ≡ Some ATuple
     pub plain : IsPlain args
-    pub file_is : IsName file
-    pub name_is : IsName name
+    pub file_is : IsName shelf file
+    pub name_is : IsName shelf name
 
   -- a module
   pub record IsFineModule (name : List ℕ) (number : ℕ) : Type 0 where
     pub known : Contains (codes "__main__" ∷ names shelf) name
-    pub namespace : IsNamespace number
+    pub namespace : IsNamespace s number
 
   -- the object of a number
   abbrev pub IsFineObject : ℕ → ObjectPart → Type 0
@@ -273,35 +330,6 @@ module _ (shelf : Shelf) (s : Snapshot) where
   abbrev pub AreFineObjects : Type 0
   AreFineObjects = (number : ℕ) (o : ObjectPart) → slice_get s.objects number ≡ Some o → IsFineObject number o
 
-  -- room
-  -- ====
-
-  -- the objects fit what is used, and that the sizes, which have limits
-  pub record HasRoom : Type 0 where
-    pub cells_held : cells_of_parts s.objects ≤ s.used_cells
-    pub bytes_held : bytes_of_parts s.objects ≤ s.used_bytes
-    pub cells : s.used_cells ≤ s.cells
-    pub bytes : s.used_bytes ≤ s.bytes
-    pub few_cells : s.cells ≤ 4194304
-    pub few_bytes : s.bytes ≤ 16777216
-
-  -- registered modules
-  -- ==================
-
-  -- the name of a module object
-  abbrev pub name_in : ObjectPart → Option (List ℕ)
-  name_in (objects.Module name names) = Some name
-  name_in _ = None
-
-  -- the name of a registered module
-  abbrev pub registered_name : ℕ → Option (List ℕ)
-  registered_name number = option_and_then name_in (slice_get s.objects number)
-
-  -- they are modules, and no two have one name
-  pub record AreRegisteredParts : Type 0 where
-    pub modules : All (IsAt AModule) s.modules
-    pub once : (i j m n : ℕ) → i < j → slice_get s.modules i ≡ Some m → slice_get s.modules j ≡ Some n → registered_name m ≡ registered_name n → ⊥
-
   -- frames
   -- ======
 
@@ -311,7 +339,7 @@ module _ (shelf : Shelf) (s : Snapshot) where
     none : ShowsParts offsets [] []
     value : {v : ValuePart} {ps : List SlotPart} {st : Stack} → IsPlain v → ShowsParts offsets ps st → ShowsParts offsets (slots.Value v ∷ ps) (flow.Value ∷ st)
     nothing : {ps : List SlotPart} {st : Stack} → ShowsParts offsets ps st → ShowsParts offsets (slots.Value parts.None ∷ ps) (flow.NoneOrException ∷ st)
-    exception : {n : ℕ} {ps : List SlotPart} {st : Stack} → IsAt AnException n → ShowsParts offsets ps st → ShowsParts offsets (slots.Value (parts.Object n) ∷ ps) (flow.NoneOrException ∷ st)
+    exception : {n : ℕ} {ps : List SlotPart} {st : Stack} → IsAt s AnException n → ShowsParts offsets ps st → ShowsParts offsets (slots.Value (parts.Object n) ∷ ps) (flow.NoneOrException ∷ st)
     null : {ps : List SlotPart} {st : Stack} → ShowsParts offsets ps st → ShowsParts offsets (slots.Empty ∷ ps) (flow.Null ∷ st)
     bound : {v : ValuePart} {name : List ℕ} {ps : List SlotPart} {st : Stack} → IsBound name v → ShowsParts offsets ps st → ShowsParts offsets (slots.Value v ∷ slots.Value (parts.Named name) ∷ ps) (flow.Method ∷ flow.Value ∷ st)
     free : {v : ValuePart} {ps : List SlotPart} {st : Stack} → IsPlain v → ShowsParts offsets ps st → ShowsParts offsets (slots.Empty ∷ slots.Value v ∷ ps) (flow.Method ∷ flow.Value ∷ st)
@@ -331,22 +359,11 @@ module _ (shelf : Shelf) (s : Snapshot) where
   IsFineLocal (slots.Return v) = ⊥
   IsFineLocal (slots.Jump target entries iterator) = ⊥
 
-  -- what an entry keeps: an exception, and nothing while it is inactive
-  pub record KeepsFine (e : EntryPart) : Type 0 where
-    pub exception : IfSome e.kept (IsAt AnException)
-    pub active : e.active ≡ false → e.kept ≡ None
-
-  -- what the end of a frame does leads to a module where it ends an import
-  abbrev pub IsFineRole : RolePart → Type 0
-  IsFineRole roles.Main = Unit {0}
-  IsFineRole roles.Call = Unit {0}
-  IsFineRole (roles.Import m) = IsAt AModule m
-
   -- a frame that has one of this role above it, or none
   pub record IsFineFrame (above : Option RolePart) (f : FramePart) : Type 0 where
     pub stands : StandsAt shelf f.module_number f.code f.at
-    pub names : IsNamespace f.names
-    pub role : IsFineRole f.role
+    pub names : IsNamespace s f.names
+    pub role : IsFineRole s f.role
     -- locals
     pub as_many_locals : length f.locals ≡ (flow_of stands.body).locals
     pub locals : All IsFineLocal f.locals
@@ -362,7 +379,7 @@ module _ (shelf : Shelf) (s : Snapshot) where
     pub slots : Stands stack (drop taken stands.shape.slots)
     -- entries, and kept jumps
     pub entries : AreEntriesAt stands.offsets (reverse f.entries) stands.shape.entries
-    pub kept : All KeepsFine f.entries
+    pub kept : All (KeepsFine s) f.entries
     pub jumps : JumpsLeadOn stands.a stands.shape.entries stack
 
   -- frames from the innermost on, the last of which is main's, and no other
@@ -377,8 +394,8 @@ module _ (shelf : Shelf) (s : Snapshot) where
   -- all but the paid steps
   pub record IsShaped : Type 0 where
     pub objects : AreFineObjects
-    pub room : HasRoom
-    pub registered : AreRegisteredParts
+    pub room : HasRoom s
+    pub registered : AreRegisteredParts s
     pub some_frames : 0 < length s.frames
     pub few_frames : length s.frames ≤ MAX_CALLS
     pub frames : AreFineFrames None (reverse s.frames)
