@@ -1,0 +1,8 @@
+mod Bridging
+pub mod Finding
+pub mod Knowing
+pub mod Lying
+mod Registering
+mod Showing
+mod Standing
+mod Stated

@@ -1,0 +1,6 @@
+//! The machine of a snapshot.
+#![tactic(auto)]
+
+mod safe;
+
+pub use safe::safe_law;
