@@ -1,9 +1,10 @@
 -- The values of a snapshot lead to their objects, and their texts and tuples are told.
-use Rattle.std.proofs.Common.{◌≡◌, ℕ, List, [], ◌∷◌, map, Option, Some, None, slice_get, sym, ap, subst, arith, All}
+use Rattle.std.proofs.Common.{◌≡◌, ℕ, List, [], ◌∷◌, map, Option, Some, None, slice_get, refl, sym, ap, ◌∙◌, subst, arith, All}
 use Rattle.std.specs.Prelude.{ℤ, pos, negsuc, is_some, IsSome}
+use Rattle.std.specs.Option.{option_map}
 use Rattle.std.proofs.lemmas.Int.{ints}
 use Rattle.std.proofs.lemmas.List.Elements.{All-nil, All-map, All-append, All-weaker, All-from_recursion}
-use Rattle.mpy_base.specs.World.{kind_of}
+use Rattle.mpy_base.specs.World.{Objects, ObjectKind, object, kind_of, IsA}
 use Rattle.arena_heap.specs.declared.value.Value.{Value}
 use Rattle.arena_heap.specs.declared.value.Value.TheVariants as values
 use Rattle.arena_heap.specs.Constants.{IsTold}
@@ -21,14 +22,14 @@ use Rattle.snap_grammar.specs.declared.parts.ObjectPart.{ObjectPart}
 use Rattle.snap_grammar.specs.declared.parts.ObjectPart.TheVariants as objects
 use Rattle.snap_grammar.specs.declared.parts.Snapshot.{Snapshot}
 use Rattle.snap_grammar.specs.Spelling.{IsValue}
-use Rattle.snap_states.specs.Parts.{cell_of}
-use Rattle.snap_states.specs.States.{IsPlain, IsFinePair, IsFineObject, AreFineObjects}
+use Rattle.snap_states.specs.Parts.{part_kind, cell_of}
+use Rattle.snap_states.specs.States.{IsAt, IsPlain, IsFinePair, IsFineObject, AreFineObjects}
 use Rattle.snap_states.specs.Decoded.{value_of, pair_of, reference, str_of, object_of}
 use Rattle.snap_loading.proofs.Bridging.{get_there}
 use Rattle.snap_loading.proofs.Finding.{str_found}
-use Rattle.snap_loading.proofs.Lying.{objects_in, object_at, each_object}
+use Rattle.snap_loading.proofs.Lying.{objects_in, object_at, each_object, kind_same}
 
-small_int : (z : ℤ) → signed.IsSmall z → IsSmall z
+pub small_int : (z : ℤ) → signed.IsSmall z → IsSmall z
 small_int (pos n) h = (omega (arith, ints), omega (arith, ints))
 small_int (negsuc n) h = (omega (arith, ints), omega (arith, ints))
 
@@ -65,32 +66,45 @@ module _ (shelf : Shelf) (s : Snapshot) (title : ℕ → ℕ → ℕ) (first : s
   value_told parts.Empty h = tt
   value_told (parts.Named name) h = tt
 
-  object_leads : (n : ℕ) (o : ObjectPart) → slice_get s.objects n ≡ Some o → Leads (objects_in shelf s title) (reference (Some o) (cell_of s.objects n))
-  object_leads n (objects.List room items) e = record { meets = ap kind_of (object_at shelf s title n _ e); small = tt }
-  object_leads n (objects.Dict room pairs) e = record { meets = ap kind_of (object_at shelf s title n _ e); small = tt }
-  object_leads n (objects.Tuple items) e = record { meets = ap kind_of (object_at shelf s title n _ e); small = tt }
-  object_leads n (objects.Text bytes) e = record { meets = ap kind_of (object_at shelf s title n _ e); small = tt }
-  object_leads n (objects.Function m code names defaults) e = record { meets = ap kind_of (object_at shelf s title n _ e); small = tt }
-  object_leads n (objects.Exception kind args file line name) e = record { meets = ap kind_of (object_at shelf s title n _ e); small = tt }
-  object_leads n (objects.Method o method) e = record { meets = ap kind_of (object_at shelf s title n _ e); small = tt }
-  object_leads n (objects.Range start stop step) e = record { meets = ap kind_of (object_at shelf s title n _ e); small = tt }
-  object_leads n (objects.Module name names) e = record { meets = ap kind_of (object_at shelf s title n _ e); small = tt }
+  -- objects of the parts' kinds lie at the parts' cells
+  module _ (objs : Objects Value ℕ) (kinds : (n : ℕ) (o : ObjectPart) → slice_get s.objects n ≡ Some o → kind_of (object objs (cell_of s.objects n)) ≡ Some (part_kind o)) where
+    object_leads : (n : ℕ) (o : ObjectPart) → slice_get s.objects n ≡ Some o → Leads objs (reference (Some o) (cell_of s.objects n))
+    object_leads n (objects.List room items) e = record { meets = kinds n _ e; small = tt }
+    object_leads n (objects.Dict room pairs) e = record { meets = kinds n _ e; small = tt }
+    object_leads n (objects.Tuple items) e = record { meets = kinds n _ e; small = tt }
+    object_leads n (objects.Text bytes) e = record { meets = kinds n _ e; small = tt }
+    object_leads n (objects.Function m code names defaults) e = record { meets = kinds n _ e; small = tt }
+    object_leads n (objects.Exception kind args file line name) e = record { meets = kinds n _ e; small = tt }
+    object_leads n (objects.Method o method) e = record { meets = kinds n _ e; small = tt }
+    object_leads n (objects.Range start stop step) e = record { meets = kinds n _ e; small = tt }
+    object_leads n (objects.Module name names) e = record { meets = kinds n _ e; small = tt }
 
-  value_leads : (v : ValuePart) → IsPlain shelf s v → IsValue v → Leads (objects_in shelf s title) (value_of shelf s v)
-  value_leads parts.None h i = record { meets = tt; small = tt }
-  value_leads parts.False h i = record { meets = tt; small = tt }
-  value_leads parts.True h i = record { meets = tt; small = tt }
-  value_leads (parts.Int z) h i = record { meets = tt; small = small_int z i }
-  value_leads (parts.Object number) h i =
-      let o = get_there s.objects number h.there in
-      subst (λ z. Leads (objects_in shelf s title) (reference z (cell_of s.objects number))) (sym o.1) (object_leads number o.0 o.1)
-  value_leads (parts.Str text) h i = record { meets = tt; small = tt }
-  value_leads (parts.Fixed m n) h i = record { meets = tt; small = tt }
-  value_leads parts.Empty h i = record { meets = tt; small = tt }
-  value_leads (parts.Named name) h i = record { meets = tt; small = tt }
+    pub value_leads : (v : ValuePart) → IsPlain shelf s v → IsValue v → Leads objs (value_of shelf s v)
+    value_leads parts.None h i = record { meets = tt; small = tt }
+    value_leads parts.False h i = record { meets = tt; small = tt }
+    value_leads parts.True h i = record { meets = tt; small = tt }
+    value_leads (parts.Int z) h i = record { meets = tt; small = small_int z i }
+    value_leads (parts.Object number) h i =
+        let o = get_there s.objects number h.there in
+        subst (λ z. Leads objs (reference z (cell_of s.objects number))) (sym o.1) (object_leads number o.0 o.1)
+    value_leads (parts.Str text) h i = record { meets = tt; small = tt }
+    value_leads (parts.Fixed m n) h i = record { meets = tt; small = tt }
+    value_leads parts.Empty h i = record { meets = tt; small = tt }
+    value_leads (parts.Named name) h i = record { meets = tt; small = tt }
+
+    -- the object of a number is of its kind at its cell
+    pub kind_there : (kind : ObjectKind) (n : ℕ) → IsAt s kind n → IsA objs kind (cell_of s.objects n)
+    kind_there kind n e = by (slice_get s.objects n) refl e
+      where
+        by : (r : Option ObjectPart) → slice_get s.objects n ≡ r → option_map part_kind r ≡ Some kind → IsA objs kind (cell_of s.objects n)
+        by None f g = cc
+        by (Some o) f g = kinds n o f ∙ g
+
+  kinds_here : (n : ℕ) (o : ObjectPart) → slice_get s.objects n ≡ Some o → kind_of (object (objects_in shelf s title) (cell_of s.objects n)) ≡ Some (part_kind o)
+  kinds_here n o e = ap kind_of (object_at shelf s title n o e) ∙ kind_same shelf s title o
 
   pub value_known : (v : ValuePart) → IsPlain shelf s v → IsValue v → IsKnown (text_at shelf) (items_at shelf) (objects_in shelf s title) (value_of shelf s v)
-  value_known v h i = record { leads = value_leads v h i; told = value_told v h }
+  value_known v h i = record { leads = value_leads (objects_in shelf s title) kinds_here v h i; told = value_told v h }
 
   -- all objects
   -- ===========

@@ -1,5 +1,6 @@
 mod Bridging
 pub mod Finding
+pub mod Hollowing
 pub mod Knowing
 pub mod Lying
 mod Registering

@@ -18,17 +18,17 @@ use Rattle.snap_states.specs.Decoded.{object_of, cells_with, heap_of}
 some_is : {A : Type 0} (x y : A) → Some x ≡ Some y → x ≡ y
 some_is x y e = cc
 
-module _ (shelf : Shelf) (s : Snapshot) (title : ℕ → ℕ → ℕ) where
-  abbrev pub objects_in : Objects Value ℕ
-  objects_in = (heap_of shelf s title).objects
+-- objects that take the cells of parts
+-- ===================================
 
-  abbrev cells_in : ObjectPart → List (Option ArenaObject)
-  cells_in o = cells_with shelf s title o
+module _ (made : ObjectPart → ArenaObject) where
+  -- the cells of an object
+  abbrev pub cells_in : ObjectPart → List (Option ArenaObject)
+  cells_in o = Some (made o) ∷ replicate (more_cells o) None
 
-  object_in : (os : List ObjectPart) (rest : List (Option ArenaObject)) (n : ℕ) (o : ObjectPart) → slice_get os n ≡ Some o
-      → object (flat_map cells_in os ++ rest) (cell_of os n) ≡ Some (object_of shelf s title o)
+  pub object_in : (os : List ObjectPart) (rest : List (Option ArenaObject)) (n : ℕ) (o : ObjectPart) → slice_get os n ≡ Some o → object (flat_map cells_in os ++ rest) (cell_of os n) ≡ Some (made o)
   object_in [] rest n o e = cc
-  object_in (x ∷ os) rest zero o e = ap (λ z. Some (object_of shelf s title z)) (some_is x o e)
+  object_in (x ∷ os) rest zero o e = ap (λ z. Some (made z)) (some_is x o e)
   object_in (x ∷ os) rest (suc n) o e =
       let empty : Option ArenaObject = None in
       let more : length (replicate (more_cells x) empty) ≡ more_cells x = length-replicate (more_cells x) empty in
@@ -40,10 +40,6 @@ module _ (shelf : Shelf) (s : Snapshot) (title : ℕ → ℕ → ℕ) where
       ∙ (ap (λ k. object (cells_in x ++ (flat_map cells_in os ++ rest)) (k + cell_of os n)) (sym size)
       ∙ (get_or-append-add (cells_in x) (flat_map cells_in os ++ rest) (cell_of os n) None
       ∙ object_in os rest n o e)))
-
-  -- an object lies at its cell
-  pub object_at : (n : ℕ) (o : ObjectPart) → slice_get s.objects n ≡ Some o → object (heap_of shelf s title).objects (cell_of s.objects n) ≡ Some (object_of shelf s title o)
-  object_at n o e = object_in s.objects (replicate (s.used_cells - cells_of_parts s.objects) None) n o e
 
   -- nothing lies elsewhere
   module _ (P : Option ArenaObject → Type 0) (none : P None) where
@@ -57,19 +53,31 @@ module _ (shelf : Shelf) (s : Snapshot) (title : ℕ → ℕ → ℕ) where
     behind (suc k) rest h zero = none
     behind (suc k) rest h (suc n) = behind k rest h n
 
-    first_then : (x : ObjectPart) (rest : List (Option ArenaObject)) → P (Some (object_of shelf s title x)) → ((n : ℕ) → P (object rest n)) → (n : ℕ) → P (object (cells_in x ++ rest) n)
+    first_then : (x : ObjectPart) (rest : List (Option ArenaObject)) → P (Some (made x)) → ((n : ℕ) → P (object rest n)) → (n : ℕ) → P (object (cells_in x ++ rest) n)
     first_then x rest own h zero = own
     first_then x rest own h (suc n) = behind (more_cells x) rest h n
 
-    each_in : (os : List ObjectPart) (k : ℕ) → ((i : ℕ) (o : ObjectPart) → slice_get os i ≡ Some o → P (Some (object_of shelf s title o))) → (n : ℕ) → P (object (flat_map cells_in os ++ replicate k None) n)
+    -- what holds of each object, and where none is, holds at each number
+    pub each_in : (os : List ObjectPart) (k : ℕ) → ((i : ℕ) (o : ObjectPart) → slice_get os i ≡ Some o → P (Some (made o))) → (n : ℕ) → P (object (flat_map cells_in os ++ replicate k None) n)
     each_in [] k h n = nothing k n
     each_in (x ∷ os) k h n =
         subst (λ zs. P (object zs n)) (sym (append_assoc (cells_in x) (flat_map cells_in os) (replicate k None)))
         (first_then x (flat_map cells_in os ++ replicate k None) (h 0 x refl) (each_in os k (λ i o e. h (suc i) o e)) n)
 
-    -- what holds of each object of the snapshot, and where none is, holds at each number of the heap
-    pub each_object : ((i : ℕ) (o : ObjectPart) → slice_get s.objects i ≡ Some o → P (Some (object_of shelf s title o))) → (n : ℕ) → P (object (heap_of shelf s title).objects n)
-    each_object h n = each_in s.objects (s.used_cells - cells_of_parts s.objects) h n
+-- the heap of a snapshot
+-- ======================
+
+module _ (shelf : Shelf) (s : Snapshot) (title : ℕ → ℕ → ℕ) where
+  abbrev pub objects_in : Objects Value ℕ
+  objects_in = (heap_of shelf s title).objects
+
+  -- an object lies at its cell
+  pub object_at : (n : ℕ) (o : ObjectPart) → slice_get s.objects n ≡ Some o → object (heap_of shelf s title).objects (cell_of s.objects n) ≡ Some (object_of shelf s title o)
+  object_at n o e = object_in (object_of shelf s title) s.objects (replicate (s.used_cells - cells_of_parts s.objects) None) n o e
+
+  -- what holds of each object of the snapshot, and where none is, holds at each number of the heap
+  pub each_object : (P : Option ArenaObject → Type 0) → P None → ((i : ℕ) (o : ObjectPart) → slice_get s.objects i ≡ Some o → P (Some (object_of shelf s title o))) → (n : ℕ) → P (object (heap_of shelf s title).objects n)
+  each_object P none h n = each_in (object_of shelf s title) P none s.objects (s.used_cells - cells_of_parts s.objects) h n
 
   -- kinds
   pub kind_same : (o : ObjectPart) → kind_of (Some (object_of shelf s title o)) ≡ Some (part_kind o)

@@ -52,7 +52,7 @@ name_at shelf is name (suc k) lt e =
     let t = is.titled k n.0 n.1 in
     (t.0, t.1 ∙ ap (λ z. Some z) n.2)
 
-name_known : (shelf : Shelf) → IsLibrary shelf → (name : List ℕ) → Contains (codes "__main__" ∷ names shelf) name → IsName shelf name
+pub name_known : (shelf : Shelf) → IsLibrary shelf → (name : List ℕ) → Contains (codes "__main__" ∷ names shelf) name → IsName shelf name
 name_known shelf is name c = name_at shelf is name c.0 c.1 c.2
 
 -- a module of a snapshot

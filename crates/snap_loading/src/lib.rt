@@ -3,4 +3,4 @@
 
 mod safe;
 
-pub use safe::safe_law;
+pub use safe::{safe_law, shells_law};
