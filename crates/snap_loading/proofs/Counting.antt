@@ -13,7 +13,10 @@ use Rattle.snap_states.specs.Parts.{more_cells, cells_of_part, cells_of_parts, c
 use Rattle.snap_loading.proofs.Lying.{cells_in}
 
 module _ (made : ObjectPart → ArenaObject) where
-  filter_none : (k : ℕ) → filter is_some (replicate k (None {A = ArenaObject})) ≡ []
+  abbrev blank : Option ArenaObject
+  blank = None
+
+  filter_none : (k : ℕ) → filter is_some (replicate k blank) ≡ []
   filter_none zero = refl
   filter_none (suc k) = filter_none k
 
@@ -21,7 +24,7 @@ module _ (made : ObjectPart → ArenaObject) where
   one_in x = ap (λ zs. suc (length zs)) (filter_none (more_cells x))
 
   cells_long : (x : ObjectPart) → length (cells_in made x) ≡ cells_of_part x
-  cells_long x = let empty : Option ArenaObject = None in let more : length (replicate (more_cells x) empty) ≡ more_cells x = length-replicate (more_cells x) empty in omega (arith, more)
+  cells_long x = let more : length (replicate (more_cells x) blank) ≡ more_cells x = length-replicate (more_cells x) blank in omega (arith, more)
 
   sums : (x : ObjectPart) (os : List ObjectPart) → cells_of_parts (x ∷ os) ≡ cells_of_part x + cells_of_parts os
   sums x os = sum_by-cons (λ k. k) (cells_of_part x) (map cells_of_part os)

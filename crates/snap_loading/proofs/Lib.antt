@@ -1,9 +1,13 @@
 mod Bridging
+pub mod Counting
 pub mod Finding
 pub mod Hollowing
 pub mod Knowing
 pub mod Lying
 mod Registering
+mod Returning
 mod Showing
+mod Slotting
 mod Standing
 mod Stated
+pub mod Valuing

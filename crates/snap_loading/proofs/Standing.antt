@@ -120,7 +120,7 @@ least_once code a b p x y ha la hb lb e f =
 one_place : (bytes : List ℕ) (body : Body) (offsets : List ℕ) (p at : ℕ) → Says bytes body offsets → slice_get offsets p ≡ Some at → position_in offsets at ≡ p
 one_place bytes body offsets p at says e = pieces.one says.begins.instructions (record { items = body.items; offsets = offsets }) p at says.lists e
 
-shape_once : (shelf : Shelf) (m k at : ℕ) (x y : StandsAt shelf m k at) → x.shape ≡ y.shape
+pub shape_once : (shelf : Shelf) (m k at : ℕ) (x y : StandsAt shelf m k at) → x.shape ≡ y.shape
 shape_once shelf m k at x y =
     let placed : x.placed ≡ y.placed = some_is x.placed y.placed (sym x.there ∙ y.there) in
     let own = one_body y.placed.bytes x.body y.body x.offsets y.offsets (subst (λ (z : Placed). Says z.bytes x.body x.offsets) placed x.says) y.says in
@@ -129,7 +129,7 @@ shape_once shelf m k at x y =
     least_once (verify.flow_of y.body) x.a y.a y.position x.shape y.shape
     (subst (λ z. Holds (verify.flow_of z) x.a) own.0 x.holds) (subst (λ z. IsLeastOf (verify.flow_of z) x.a) own.0 x.least) y.holds y.least (ap x.a (sym position) ∙ x.is) y.is
 
-same_drop : {A : Type 0} (xs : List A) (t u n : ℕ) → length (drop t xs) ≡ n → u + n ≡ length xs → drop u xs ≡ drop t xs
+pub same_drop : {A : Type 0} (xs : List A) (t u n : ℕ) → length (drop t xs) ≡ n → u + n ≡ length xs → drop u xs ≡ drop t xs
 same_drop [] zero zero n e f = refl
 same_drop [] zero (suc u) n e f = refl
 same_drop [] (suc t) zero n e f = refl

@@ -2,5 +2,7 @@
 #![tactic(auto)]
 
 mod safe;
+mod shown;
 
 pub use safe::{safe_law, shells_law};
+pub use shown::shown_law;
