@@ -8,7 +8,7 @@ use Rattle.std.proofs.lemmas.List.Elements.{All-nil, All-from_recursion, All-rep
 use Rattle.std.proofs.lemmas.List.Sums.{sum_by-cons}
 use Rattle.mpy_base.specs.declared.builtin.Builtin.{Builtin}
 use Rattle.mpy_base.specs.declared.builtin.Builtin.TheVariants as builtins
-use Rattle.mpy_base.specs.World.{Objects, ObjectKind, AList, ATuple, AText, ADict, AFunction, AnException, AMethod, ARange, AModule, object, kind_of, IsA}
+use Rattle.mpy_base.specs.World.{Objects, ObjectKind, AList, ATuple, AText, ADict, AFunction, AnException, AMethod, ARange, AModule, object, kind_of}
 use Rattle.mpy_base.specs.Weights as weights
 use Rattle.arena_heap.specs.declared.value.Value.{Value}
 use Rattle.arena_heap.specs.declared.value.Value.TheVariants as values
@@ -24,7 +24,7 @@ use Rattle.snap_grammar.specs.declared.parts.Snapshot.{Snapshot}
 use Rattle.snap_grammar.specs.Spelling.{IsValue, IsObject, Fits}
 use Rattle.snap_states.specs.Parts.{part_kind, more_cells, cells_of_part, cells_of_parts, bytes_of_part, bytes_of_parts, cell_of, method_of}
 use Rattle.snap_states.specs.States.{kind_of_part, count_in_part, tuple_count, IsNamespace, IsPlain, IsBound, IsFineObject, AreFineObjects}
-use Rattle.snap_states.specs.Decoded.{builtin_called, value_of, reference, object_of}
+use Rattle.snap_states.specs.Decoded.{builtin_called, value_of, reference}
 use Rattle.snap_loading.specs.Shells.{laid, shell_of}
 use Rattle.snap_loading.proofs.Finding.{builtin_found}
 use Rattle.snap_loading.proofs.Lying.{cells_in, object_in, each_in}
@@ -39,7 +39,7 @@ module _ (shelf : Shelf) (s : Snapshot) (title : ℕ → ℕ → ℕ) where
   abbrev shell : ObjectPart → ArenaObject
   shell o = shell_of shelf s title o
 
-  shell_kind : (o : ObjectPart) → kind_of (Some (shell o)) ≡ Some (part_kind o)
+  pub shell_kind : (o : ObjectPart) → kind_of (Some (shell o)) ≡ Some (part_kind o)
   shell_kind (objects.List room items) = refl
   shell_kind (objects.Dict room pairs) = refl
   shell_kind (objects.Tuple items) = refl
@@ -61,7 +61,7 @@ module _ (shelf : Shelf) (s : Snapshot) (title : ℕ → ℕ → ℕ) where
   shell_more (objects.Range start stop step) = refl
   shell_more (objects.Module name names) = refl
 
-  shell_laid : (os : List ObjectPart) → flat_map laid (map shell os) ≡ flat_map (cells_in shell) os
+  pub shell_laid : (os : List ObjectPart) → flat_map laid (map shell os) ≡ flat_map (cells_in shell) os
   shell_laid [] = refl
   shell_laid (o ∷ os) = ap₂ (λ k zs. (Some (shell o) ∷ replicate k None) ++ zs) (shell_more o) (shell_laid os)
 

@@ -1,9 +1,12 @@
 mod Bridging
 pub mod Counting
+pub mod Filled
 pub mod Finding
 pub mod Hollowing
 pub mod Knowing
 pub mod Lying
+pub mod Mixing
+pub mod Putting
 mod Registering
 mod Returning
 mod Showing

@@ -13,7 +13,7 @@ use Rattle.snap_grammar.specs.declared.parts.ObjectPart.TheVariants as objects
 use Rattle.snap_grammar.specs.declared.parts.Snapshot.{Snapshot}
 use Rattle.snap_states.specs.Parts.{part_kind, more_cells, cells_of_part, cells_of_parts, cell_of}
 use Rattle.snap_states.specs.States.{IsAt}
-use Rattle.snap_states.specs.Decoded.{object_of, cells_with, heap_of}
+use Rattle.snap_states.specs.Decoded.{object_of, heap_of}
 
 some_is : {A : Type 0} (x y : A) → Some x ≡ Some y → x ≡ y
 some_is x y e = cc

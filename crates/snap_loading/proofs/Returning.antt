@@ -1,14 +1,12 @@
 -- The snapshot of what a snapshot stands for is that snapshot.
-use Rattle.std.proofs.Common.{◌≡◌, ℕ, zero, suc, ◌+◌, ◌-◌, ◌<◌, ◌≤◌, List, [], ◌∷◌, ◌++◌, length, map, drop, replicate, reverse, Option, Some, None, slice_get, refl, sym, ap, ap₂, ◌∙◌, subst, arith, All, length-append}
+use Rattle.std.proofs.Common.{◌≡◌, ℕ, ◌+◌, ◌-◌, ◌<◌, List, [], ◌∷◌, length, map, drop, replicate, reverse, Option, Some, None, refl, sym, ap, ap₂, ◌∙◌, arith, All, length-append}
 use Rattle.std.specs.List.{flat_map}
-use Rattle.std.specs.Option.{option_map}
 use Rattle.std.proofs.lemmas.List.{length-replicate, reverse-reverse}
 use Rattle.std.proofs.lemmas.List.Elements.{All-head, All-tail}
 use Rattle.mpy_base.specs.World.{Heap, ADict, AModule}
 use Rattle.arena_heap.specs.declared.value.Value.{Value}
 use Rattle.arena_heap.specs.Values.{ArenaObject}
 use Rattle.bc_flow.specs.bc_shapes.Shape.{At}
-use Rattle.bc_flow.specs.bc_shapes.declared.kinds.Kind.{Kind as SlotKind}
 use Rattle.bc_flow.specs.Code as flow
 use Rattle.bc_flow.specs.Machine.{remark}
 use Rattle.bc_flow.specs.Verified.{Assigned, Holds, IsLeastOf}
@@ -30,7 +28,7 @@ use Rattle.snap_grammar.specs.declared.parts.FramePart.{FramePart}
 use Rattle.snap_grammar.specs.declared.parts.Snapshot.{Snapshot}
 use Rattle.snap_states.specs.Parts.{cells_of_parts, cell_of}
 use Rattle.snap_states.specs.States.{IsAt, KeepsFine, IsFineFrame, AreFineFrames, IsShaped}
-use Rattle.snap_states.specs.Decoded.{object_of, heap_of, entry_of, modules_of, handler_of, local_of, call_of, IsCallOf, AreCallsOf, IsDecoded}
+use Rattle.snap_states.specs.Decoded.{object_of, heap_of, entry_of, modules_of, handler_of, call_of, IsCallOf, AreCallsOf, IsDecoded}
 use Rattle.snap_loading.specs.Given.{IsLibrary}
 use Rattle.snap_loading.proofs.Counting.{place_at, all_long, objects_back}
 use Rattle.snap_loading.proofs.Lying.{cells_in}

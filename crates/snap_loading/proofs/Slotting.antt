@@ -1,19 +1,17 @@
 -- The slots, locals and entries of a frame of a snapshot come back.
-use Rattle.std.proofs.Common.{◌≡◌, ℕ, zero, suc, ◌+◌, ◌<◌, ◌≤◌, Bool, true, false, not, List, [], ◌∷◌, ◌++◌, length, map, drop, reverse, Option, Some, None, slice_get, refl, sym, ap, ap₂, ◌∙◌, subst, arith, All, if◌then◌else◌}
-use Rattle.std.specs.Prelude.{◌==◌, nat_le, unwrap_or, IfSome}
+use Rattle.std.proofs.Common.{◌≡◌, ℕ, ◌+◌, ◌<◌, Bool, true, false, not, List, [], ◌∷◌, ◌++◌, length, map, reverse, Option, Some, None, slice_get, refl, sym, ap, ap₂, ◌∙◌, arith, All, if◌then◌else◌}
+use Rattle.std.specs.Prelude.{◌==◌, nat_le, IfSome}
 use Rattle.std.specs.Option.{option_map}
 use Rattle.std.proofs.lemmas.Bool.{ne_eqb}
 use Rattle.std.proofs.lemmas.Grind.{reverse_onto}
-use Rattle.std.proofs.lemmas.List.{map-append, reverse-append, reverse-reverse}
+use Rattle.std.proofs.lemmas.List.{map-append, reverse-append}
 use Rattle.std.proofs.lemmas.List.Elements.{All-head, All-tail}
-use Rattle.mpy_base.specs.declared.builtin.Builtin.TheVariants as builtins
 use Rattle.mpy_base.specs.World.{AnException, AModule}
 use Rattle.arena_heap.specs.declared.value.ExcNo.{ExcNo}
 use Rattle.bc_flow.specs.bc_shapes.declared.kinds.Kind.{Kind as SlotKind}
-use Rattle.bc_flow.specs.bc_shapes.declared.kinds.Kind.TheVariants as kinds
 use Rattle.bc_flow.specs.bc_shapes.declared.shape.Entry.{Entry as FlowEntry}
 use Rattle.bc_flow.specs.Machine.{Stack, remark}
-use Rattle.bc_flow.proofs.Sound.{Fit, val, none_v, none_c, none_b, ret, jump, p1, p2, p3, p4, null, method, Stands, empty, more}
+use Rattle.bc_flow.proofs.Sound.{val, none_v, none_c, none_b, ret, jump, p1, p2, p3, p4, null, method, Stands, empty, more}
 use Rattle.bc_labels.specs.Positions.{CodeList, Listed, Starts, position_in}
 use Rattle.bc_labels.proofs.Order.{order}
 use Rattle.bc_labels.proofs.Pieces as pieces

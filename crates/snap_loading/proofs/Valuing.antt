@@ -1,5 +1,5 @@
 -- The values and objects of a snapshot come back.
-use Rattle.std.proofs.Common.{◌≡◌, ℕ, zero, suc, ◌<◌, Bool, true, false, List, [], ◌∷◌, length, map, Option, Some, None, slice_get, position, refl, sym, ap, ap₂, ◌∙◌, subst, arith, All}
+use Rattle.std.proofs.Common.{◌≡◌, ℕ, zero, suc, ◌<◌, List, [], ◌∷◌, length, map, Option, Some, None, slice_get, position, refl, ap, ap₂, ◌∙◌, subst, All}
 use Rattle.std.specs.Prelude.{unwrap_or, option_and_then}
 use Rattle.std.specs.Option.{option_map}
 use Rattle.std.specs.Str.{bytes_eq}
@@ -15,7 +15,6 @@ use Rattle.arena_heap.specs.declared.value.StrNo.TheVariants as strs
 use Rattle.bc_library.specs.mpy_tree.Codes.{Placed, codes_of}
 use Rattle.bc_library.specs.Constants.{text_at}
 use Rattle.bc_library.specs.Shelf.{Shelf, Named, names}
-use Rattle.bc_library.specs.Texts.{text_numbered}
 use Rattle.vm_starting.specs.vm_states.bc_progress.py_values.Names.{builtin_name}
 use Rattle.vm_starting.specs.vm_states.bc_rows.Codes.{code_numbered}
 use Rattle.vm_starting.specs.Programs.{IsRunnable}
@@ -28,7 +27,7 @@ use Rattle.snap_grammar.specs.declared.parts.ObjectPart.TheVariants as objects
 use Rattle.snap_grammar.specs.declared.parts.Snapshot.{Snapshot}
 use Rattle.snap_states.specs.Parts.{part_kind, cell_of}
 use Rattle.snap_states.specs.States.{IsAt, IsName, IsNamespace, IsPlain, IsFinePair, IsFineObject}
-use Rattle.snap_states.specs.Decoded.{builtin_called, kind_called, name_number, str_of, module_title, value_of, pair_of, reference, object_of}
+use Rattle.snap_states.specs.Decoded.{builtin_called, kind_called, name_number, module_title, value_of, pair_of, reference, object_of}
 use Rattle.snap_loading.specs.Given.{IsLibrary}
 use Rattle.snap_loading.proofs.Bridging.{get_map, get_there}
 use Rattle.snap_loading.proofs.Finding.{find_text, name_found, str_found, builtin_found, kind_found}
