@@ -15,7 +15,7 @@ use Rattle.board_files.specs.board_plan.declared.plan.Plan.{Plan}
 use Rattle.board_files.specs.board_plan.declared.plan.Task.{Task}
 use Rattle.board_files.specs.board_tasks.Schedules.{total}
 use Rattle.board_files.specs.Summaries.{HasRun, run_in}
-use Rattle.board_meaning.specs.Meant.{RanAsMeant}
+use Rattle.board_command.specs.TaskRuns.{RanAsMeant}
 
 line_at : (lines : List (List ℕ)) (i : ℕ) → i < length lines → (line : List ℕ) × (slice_get lines i ≡ Some line)
 line_at [] i h = absurd (omega (arith, h))

@@ -10,7 +10,7 @@ ghost use Rattle.meant_runs.specs.Units.{AreUnits};
 ghost use Rattle.board_files.specs.board_plan.declared.plan.Plan.{Plan};
 ghost use Rattle.board_files.specs.board_plan.declared.plan.Task.{Task};
 ghost use Rattle.board_files.specs.Summaries.{HasRun};
-ghost use Rattle.board_meaning.specs.Meant.{RanAsMeant};
+ghost use Rattle.board_command.specs.TaskRuns.{RanAsMeant};
 
 use meant_runs::runs_law;
 
