@@ -23,8 +23,8 @@ use Rattle.stress_command.specs.run_commands.Save.{EndsRunTo}
 use Rattle.meant_commands.specs.GoMeant.{GoMeans}
 use Rattle.meant_commands.specs.Meant.{Libraries, RunMeans}
 use Rattle.meant_commands.proofs.Meaning.{MeantLaw, run_to_means}
-use Rattle.meant_commands.specs.image_commands.Freeze.{Freezes}
-use Rattle.meant_commands.specs.image_commands.Migrate.{Migrates}
+use Rattle.meant_commands.specs.file_commands.Freeze.{Freezes}
+use Rattle.meant_commands.specs.file_commands.Migrate.{Migrates}
 use Rattle.board_command.specs.command_files.Images.{HoldsImage}
 use Rattle.board_command.specs.command_files.Over.{EndsAtBase}
 use Rattle.board_command.specs.Boards.{Boards}

@@ -20,8 +20,8 @@ use Rattle.stress_command.specs.run_commands.Ready.{GoLibrary, RunLibrary}
 use Rattle.stress_command.specs.run_commands.Run.{EndsRun, room_of}
 use Rattle.stress_command.specs.run_commands.Save.{EndsRunTo}
 use Rattle.meant_commands.specs.Meant.{Libraries}
-use Rattle.meant_commands.specs.image_commands.Freeze.{Freezes}
-use Rattle.meant_commands.specs.image_commands.Migrate.{Migrates}
+use Rattle.meant_commands.specs.file_commands.Freeze.{Freezes}
+use Rattle.meant_commands.specs.file_commands.Migrate.{Migrates}
 use Rattle.board_command.specs.Boards.{Boards}
 use Rattle.stress_command.specs.Stress.{EndsStress}
 use Rattle.mpy_tool.specs.Call.{Call, Shows, ShowsPorts}

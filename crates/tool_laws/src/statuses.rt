@@ -34,8 +34,8 @@ ghost use Rattle.meant_commands.specs.file_commands.CheckAs.{ChecksAs, HoldsTran
 ghost use Rattle.meant_commands.specs.file_commands.Cross.{Crosses};
 ghost use Rattle.meant_commands.specs.file_commands.Dump.{Dumps, HoldsListed};
 ghost use Rattle.meant_commands.specs.file_commands.Merge.{HoldModules, Merges};
-ghost use Rattle.meant_commands.specs.image_commands.Freeze.{Freezes};
-ghost use Rattle.meant_commands.specs.image_commands.Migrate.{Migrates};
+ghost use Rattle.meant_commands.specs.file_commands.Freeze.{Freezes};
+ghost use Rattle.meant_commands.specs.file_commands.Migrate.{Migrates};
 ghost use Rattle.board_command.specs.Boards.{Boards};
 ghost use Rattle.board_command.specs.Plans.{HoldsPlan};
 ghost use Rattle.stress_command.specs.run_commands.Base as bases;

@@ -1,6 +1,6 @@
 use Rattle.std.proofs.Common.{List, ℕ, Option, subst}
 use Rattle.mpy_io.specs.Files.{FileOf, BecomesFront}
-use Rattle.image_commands.proofs.freeze_command.freeze.Goals as goal
+use Rattle.file_commands.proofs.freeze_command.freeze.Goals as goal
 
 pub returns-in-Ok-clause-went : goal.returns-in-Ok-clause-went
 returns-in-Ok-clause-went g c =

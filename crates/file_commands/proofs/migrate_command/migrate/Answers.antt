@@ -1,8 +1,8 @@
 use Rattle.std.proofs.Common.{sym, subst}
 use Rattle.command_files.specs.mpy_endings.declared.ending.Ending.{Ending}
-use Rattle.image_commands.specs.Migrate.{Migrates}
-use Rattle.image_commands.proofs.Migrating.{unmigrated}
-use Rattle.image_commands.proofs.migrate_command.migrate.Goals as goal
+use Rattle.file_commands.specs.Migrate.{Migrates}
+use Rattle.file_commands.proofs.Migrating.{unmigrated}
+use Rattle.file_commands.proofs.migrate_command.migrate.Goals as goal
 
 pub returns-clause-went : goal.returns-clause-went
 returns-clause-went g c =

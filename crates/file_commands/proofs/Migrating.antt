@@ -19,7 +19,7 @@ use Rattle.image_runs.specs.declared.fault.MainFault.TheVariants as mains
 use Rattle.manifest_files.specs.declared.frozen_fault.FrozenFault.TheVariants as frozen
 use Rattle.command_files.specs.Folder.{ChangesOnly, MayHold}
 use Rattle.command_files.proofs.Others.{same_only, became_only, front_only}
-use Rattle.image_commands.specs.Migrate.{Migrates, refused_end}
+use Rattle.file_commands.specs.Migrate.{Migrates, refused_end}
 
 -- modules of an image have different names, so they can only be too big for another one
 -- ====================================================================================

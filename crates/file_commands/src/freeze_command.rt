@@ -5,7 +5,7 @@ ghost use Rattle.mpy_io.specs.Count.{Counts};
 ghost use Rattle.command_files.specs.mpy_endings.Ending.{is_folder_fault, is_out_fault};
 ghost use Rattle.manifest_files.specs.image_grammar.Base.{base_of};
 ghost use Rattle.frozen_files.specs.image_freeze.Fronts.{MayLieOver};
-ghost use Rattle.image_commands.specs.Freeze.{Freezes};
+ghost use Rattle.file_commands.specs.Freeze.{Freezes};
 
 use bc_library::Library;
 use command_files::Ending;

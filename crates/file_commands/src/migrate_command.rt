@@ -3,7 +3,7 @@
 ghost use Rattle.std.specs.Prelude.{◌≡◌, false};
 ghost use Rattle.mpy_io.specs.Count.{Counts};
 ghost use Rattle.command_files.specs.mpy_endings.Ending.{is_folder_fault, is_out_fault};
-ghost use Rattle.image_commands.specs.Migrate.{Migrates, refused_end};
+ghost use Rattle.file_commands.specs.Migrate.{Migrates, refused_end};
 
 use command_files::{Ending, read_file};
 use frozen_files::{MigrateFault, migrate_image};

@@ -5,7 +5,7 @@ use Rattle.manifest_files.specs.image_grammar.bc_library.Shelf.{Shelf}
 use Rattle.command_files.specs.mpy_endings.declared.ending.Ending.{Ending}
 use Rattle.command_files.specs.mpy_endings.declared.ending.Ending.TheVariants.{Done, Unaccepted, Unread, Unverified, Unmerged, Unopened, Unfrozen, Unboarded, Different, Stopped, ReadFault, WriteFault, Unwritten, NoMemory, Absent}
 use Rattle.command_files.specs.Folder.{ChangesOnly}
-use Rattle.image_commands.specs.Freeze.{Freezes}
+use Rattle.file_commands.specs.Freeze.{Freezes}
 use Rattle.command_files.proofs.Others.{same_only, became_only, front_only}
 
 module _ (version : ℕ) (below : Shelf) (manifest written : List ℕ) (old new : Option FileOf) where
