@@ -9,7 +9,7 @@ use Rattle.meant_files.specs.image_open.bc_library.Shelf.{Shelf, member_of}
 use Rattle.meant_files.specs.py_meaning.Program.{Program}
 use Rattle.board_files.specs.vm_starting.vm_states.Means as machine
 use Rattle.board_files.specs.vm_starting.Programs.{IsProgramOf as IsOfShelf, IsRunnable}
-use Rattle.meant_runs.specs.Units.{AreUnits}
+use Rattle.meant_files.specs.meant_runs.Units.{AreUnits}
 use Rattle.meant_files.specs.image_open.Opens.{Opens}
 use Rattle.board_plan.specs.declared.plan.Plan.{Plan}
 use Rattle.board_plan.specs.declared.plan.Task.{Task}

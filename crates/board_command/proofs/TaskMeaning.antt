@@ -2,15 +2,15 @@
 use Rattle.std.proofs.Common.{◌≡◌, ℕ, zero, suc, ◌<◌, List, [], ◌∷◌, length, Option, Some, refl, subst, arith}
 use Rattle.std.specs.Prelude.{slice_get}
 use Rattle.std.proofs.lemmas.Option.{slice_get_within}
-use Rattle.meant_runs.specs.mpy_base.World.{PortState}
-use Rattle.meant_runs.specs.mpy_io.Files.{FileOf}
+use Rattle.meant_files.specs.meant_runs.mpy_base.World.{PortState}
+use Rattle.meant_files.specs.meant_runs.mpy_io.Files.{FileOf}
 use Rattle.board_files.specs.vm_starting.bc_library.Shelf.{Shelf}
-use Rattle.meant_runs.specs.py_meaning.Program.{Program}
-use Rattle.meant_runs.specs.bc_machine.Machine.{run}
+use Rattle.meant_files.specs.meant_runs.py_meaning.Program.{Program}
+use Rattle.meant_files.specs.meant_runs.bc_machine.Machine.{run}
 use Rattle.board_files.specs.vm_starting.vm_states.Means as machine
 use Rattle.board_files.specs.vm_starting.Programs.{IsProgramOf}
-use Rattle.meant_runs.specs.Runs.{MeansRun}
-use Rattle.meant_runs.specs.Units.{AreUnits}
+use Rattle.meant_files.specs.meant_runs.Runs.{MeansRun}
+use Rattle.meant_files.specs.meant_runs.Units.{AreUnits}
 use Rattle.board_files.specs.board_plan.declared.plan.Plan.{Plan}
 use Rattle.board_files.specs.board_plan.declared.plan.Task.{Task}
 use Rattle.board_files.specs.board_tasks.Schedules.{total}

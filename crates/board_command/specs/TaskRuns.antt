@@ -1,9 +1,9 @@
 -- What the run of a task says of the program of its module.
 use Rattle.std.specs.Prelude.{◌≡◌, ℕ, List, [], Some, slice_get}
-use Rattle.meant_runs.specs.mpy_io.Files.{FileOf}
-use Rattle.meant_runs.specs.bc_machine.py_effects.Ends.{Run}
-use Rattle.meant_runs.specs.py_meaning.Program.{Program}
-use Rattle.meant_runs.specs.Runs.{MeansRun}
+use Rattle.meant_files.specs.meant_runs.mpy_io.Files.{FileOf}
+use Rattle.meant_files.specs.meant_runs.bc_machine.py_effects.Ends.{Run}
+use Rattle.meant_files.specs.meant_runs.py_meaning.Program.{Program}
+use Rattle.meant_files.specs.meant_runs.Runs.{MeansRun}
 use Rattle.board_files.specs.board_plan.declared.plan.Plan.{Plan}
 use Rattle.board_files.specs.board_plan.declared.plan.Task.{Task}
 use Rattle.board_files.specs.board_tasks.Schedules.{total}

@@ -1,18 +1,18 @@
 //! What the runs of tasks mean.
 
 ghost use Rattle.std.specs.Prelude.{◌≡◌, ℕ, List, Option, Some, slice_get};
-ghost use Rattle.meant_runs.specs.mpy_io.Files.{FileOf};
+ghost use Rattle.meant_files.specs.meant_runs.mpy_io.Files.{FileOf};
 ghost use Rattle.board_files.specs.vm_starting.bc_library.Shelf.{Shelf};
-ghost use Rattle.meant_runs.specs.py_meaning.Program.{Program};
+ghost use Rattle.meant_files.specs.meant_runs.py_meaning.Program.{Program};
 ghost use Rattle.board_files.specs.vm_starting.vm_states.Means as machine;
 ghost use Rattle.board_files.specs.vm_starting.Programs.{IsProgramOf};
-ghost use Rattle.meant_runs.specs.Units.{AreUnits};
+ghost use Rattle.meant_files.specs.meant_runs.Units.{AreUnits};
 ghost use Rattle.board_files.specs.board_plan.declared.plan.Plan.{Plan};
 ghost use Rattle.board_files.specs.board_plan.declared.plan.Task.{Task};
 ghost use Rattle.board_files.specs.Summaries.{HasRun};
 ghost use Rattle.board_command.specs.TaskRuns.{RanAsMeant};
 
-use meant_runs::runs_law;
+use meant_files::runs_law;
 
 /// Where the library has the units of a program whose main module is a task's, that task prints and ends as the program means, without
 /// ports, in the task's room and with the total of its own steps: whatever the other tasks do.
