@@ -162,7 +162,7 @@ pub(crate) fn reserve_dict(arena: &mut Arena, d: DictNo, pairs: u64) -> Result<(
 }
 
 /// Puts a pair behind the others of a dict that has room.
-pub(crate) fn put_in_dict(arena: &mut Arena, d: DictNo, key: Value, v: Value)
+pub fn put_in_dict(arena: &mut Arena, d: DictNo, key: Value, v: Value)
     requires dict { IsA arena.old.objects ADict d.cell }
     requires key { IsKey key }
     requires key_leads { Leads arena.old.objects key }
