@@ -1,4 +1,5 @@
 pub mod Filled
+pub mod Jumps
 pub mod Kept
 pub mod Outcomes
 pub mod Renamed

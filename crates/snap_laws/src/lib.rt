@@ -17,7 +17,7 @@ mod uses;
 
 pub use calls::{calls_law, faults_law};
 pub use effects::{callees_law, effects_law, modules_law, names_law, raises_law};
-pub use flow::{least_law, rooms_law};
+pub use flow::{frames_law, least_law, rooms_law};
 pub use heaps::{heap_law, sight_law};
 pub use iterables::iterables_law;
 pub use kept::{bytes_law, filled_law, paid_law, waits_law};
