@@ -21,4 +21,5 @@ pub mod Members
 pub mod Loading
 pub mod FilePrograms
 pub mod FilesMean
+pub mod Printed
 mod Alone

@@ -3,3 +3,4 @@ pub mod Laws
 pub mod Runs
 pub mod AskedFor
 pub mod Programs
+pub mod Outputs
