@@ -22,4 +22,5 @@ pub mod Loading
 pub mod FilePrograms
 pub mod FilesMean
 pub mod Printed
+pub mod ManifestNames
 mod Alone
