@@ -23,4 +23,6 @@ pub mod FilePrograms
 pub mod FilesMean
 pub mod Printed
 pub mod ManifestNames
+pub mod SourcesLoad
+pub mod SourceLimits
 mod Alone

@@ -4,3 +4,5 @@ pub mod Runs
 pub mod AskedFor
 pub mod Programs
 pub mod Outputs
+pub mod Faultless
+pub mod Small

@@ -4,6 +4,7 @@
 mod files;
 mod images;
 mod laws;
+mod loaded;
 mod manifests;
 mod merging;
 mod outputs;
@@ -13,6 +14,7 @@ mod statuses;
 
 pub use files::{check_as_law, check_law, cross_law, dump_law};
 pub use images::{board_law, freeze_law, migrate_law, opened_law};
+pub use loaded::{limits_law, loading_completeness_law};
 pub use manifests::manifest_law;
 pub use merging::{merge_law, merged_law};
 pub use outputs::{board_output_law, check_as_output_law};
