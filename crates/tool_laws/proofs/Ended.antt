@@ -23,7 +23,7 @@ use Rattle.tool_laws.specs.Runs.{AnswersOnce, OnFiles, SettledRun}
 use Rattle.tool_laws.proofs.Settling.{run_ends}
 
 -- it ends so, where its meaning has ended in t turns
-ends_so : (program : Program) (room : Room) (steps : ℕ) (states : List PortState) (old new : Outside) (ports_new : List PortView) (status t : ℕ)
+pub ends_so : (program : Program) (room : Room) (steps : ℕ) (states : List PortState) (old new : Outside) (ports_new : List PortView) (status t : ℕ)
     → DoesAsMeant program room steps states old new ports_new status → IsRunStatus status → HasEnded (meaning program room.cells room.bytes states t) → 16 * t + 16 ≤ steps
     → status ≡ end_status (meaning program room.cells room.bytes states t).end
 ends_so program room steps states old new ports_new status t does is ended within =

@@ -19,7 +19,7 @@ use Rattle.tool_laws.specs.Once.{EndOnce}
 use Rattle.tool_laws.specs.Runs.{AnswersOnce, RunLaws}
 
 -- runs that ended are over
-made_end : (end : RunEnd) (steps : ℕ) → IsOver end → IsRunStatus (status_of (ending_of end steps))
+pub made_end : (end : RunEnd) (steps : ℕ) → IsOver end → IsRunStatus (status_of (ending_of end steps))
 made_end ends.Ended steps o = inl refl
 made_end ends.Raised steps o = inr (inl refl)
 made_end ends.Memory steps o = inr (inr (inr refl))
