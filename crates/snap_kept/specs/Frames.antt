@@ -60,8 +60,8 @@ module _ (library : Library) where
   AreSlots heap (KeptReturn v ∷ slots) = IsPlain library heap v × AreSlots heap slots
   AreSlots heap (KeptJump target count iterator ∷ slots) = AreSlots heap slots
 
-  -- each entry has a height among the slots, and no height parts a method from its object. The entries below one are held at its
-  -- handler, and at the target of the jump that it keeps
+  -- each entry has a height among the slots, and no height parts a method from its object. The entries below one are
+  -- held at its handler, and at the target of the jump that it keeps
   abbrev pub AreEntries : PlainHeap → List Slot → List Entry → Type 0
   AreEntries heap slots [] = Unit {0}
   AreEntries heap slots (e ∷ entries) =
