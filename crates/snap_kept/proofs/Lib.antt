@@ -6,6 +6,7 @@ mod FileConstants
 mod Framing
 mod Lists
 mod Making
+mod Marking
 mod Moduling
 mod Moving
 mod Onward

@@ -1,9 +1,9 @@
 -- A step keeps what slots, locals and the world hold.
 use Rattle.std.proofs.Common.{◌≡◌, ◌⊎◌, ℕ, zero, suc, ◌+◌, ◌*◌, ◌/◌, ◌%◌, ◌-◌, ◌≤◌, List, [], ◌∷◌, ◌++◌, map, length, take, drop, Bool, true, false, cond, ◌&&◌, Option, Some, None, inl, inr, refl, sym, ap, ◌∙◌, subst, arith, length-append, length-drop}
-use Rattle.std.specs.Prelude.{slice_get, nat_lt, nat_le, reverse, IsSome}
+use Rattle.std.specs.Prelude.{slice_get, nat_eq, nat_lt, nat_le, reverse, IsSome}
 use Rattle.std.specs.List.{AllByRecursion as Each}
-use Rattle.std.proofs.lemmas.Bool.{eqb-true, false≢true, and_parts, leb-true}
-use Rattle.std.proofs.lemmas.List.{reverse-append, drop-drop}
+use Rattle.std.proofs.lemmas.Bool.{eqb-true, false≢true, true≢false, and_parts, and_from, leb-true, ltb-true}
+use Rattle.std.proofs.lemmas.List.{reverse-append, drop-drop, drop-map, take-append-drop, append_assoc}
 use Rattle.bc_progress.specs.mpy_base.World.{DictObject}
 use Rattle.bc_progress.specs.mpy_base.Weights.{room_for}
 use Rattle.bc_progress.specs.mpy_base.Val.{Val, Nil, Truth, Int, Str, Built, PlainWorld}
@@ -16,14 +16,14 @@ use Rattle.bc_progress.specs.bc_flow.bc_shapes.declared.kinds.Want.TheVariants a
 use Rattle.bc_progress.specs.bc_flow.bc_shapes.declared.kinds.Give.{Give}
 use Rattle.bc_progress.specs.bc_flow.bc_shapes.declared.shape.Entry.{Entry as FlowEntry}
 use Rattle.bc_progress.specs.bc_flow.bc_shapes.Shape.{At as FlowAt, takes as values_on, fits}
-use Rattle.bc_progress.specs.bc_flow.Action.{Action, Straight, Branch, EndFinally, Unwind, Return, op_action, jump_action, instr_action, iterator, arguments}
+use Rattle.bc_progress.specs.bc_flow.Action.{Setup, PopExcept, Action, Straight, Branch, EndFinally, Unwind, Return, op_action, jump_action, instr_action, iterator, arguments}
 use Rattle.bc_progress.specs.bc_flow.Code as flows
-use Rattle.bc_progress.specs.bc_flow.Edges.{takes, change, floor, finds, base, deep}
+use Rattle.bc_progress.specs.bc_flow.Edges.{target, falls, mark, is_marked, all_marked, raise_ways, way_in, rest_of, takes, change, floor, finds, base, deep}
 use Rattle.bc_progress.specs.bc_flow.Verified.{Assigned, Holds as Meets}
 use Rattle.bc_progress.specs.bc_flow.Machine as flow
 use Rattle.bc_progress.specs.bc_flow.Machine.{Stack, St, is_wanted, all_wanted}
 use Rattle.bc_progress.proofs.bc_flow_lemmas.Never.{Good}
-use Rattle.bc_progress.proofs.bc_flow_lemmas.Sound.{stands-length}
+use Rattle.bc_progress.proofs.bc_flow_lemmas.Sound.{stands-length, cut_all}
 use Rattle.bc_progress.specs.py_values.Shown.{PlainHeap, Shown, Nothing, Number, Text, Tuple, Items, Pairs, Range, Other, shown, truth}
 use Rattle.bc_progress.specs.py_primitives.Faults.{Fault, TooDeep, NoModule, RelativeImport, IncompatibleFile, BadDefaults, NothingToRaise}
 use Rattle.bc_progress.specs.py_primitives.Outcome.{Outcome, making, making_tuple, making_list}
@@ -52,17 +52,19 @@ use Rattle.bc_progress.proofs.Frames.{meets}
 use Rattle.snap_kept.specs.Texts.{IsConstant, IsName}
 use Rattle.snap_kept.specs.Values.{IsNamespace, count_shown, count_of, IsPlain}
 use Rattle.snap_kept.specs.Effects.{IsLocal, AreLocals, IsSound}
-use Rattle.snap_kept.specs.Frames.{AreSlots, AreEntries, IsFrame, IsKept}
+use Rattle.snap_kept.specs.Frames.{IsHeld, AreHeld, IsMarked, LeadsHeld, AreSlots, AreEntries, IsFrame, IsKept}
+use Rattle.snap_kept.proofs.Marking.{held_up, held_go, held_back, held_marked, all_marks, next_marks, jump_marks, jump_kept, raise_marks}
+use Rattle.bc_progress.proofs.Moves.{flow_remarked}
 use Rattle.snap_kept.proofs.Onward.{namespace_on}
 use Rattle.snap_kept.proofs.Changes.{constant_plain}
-use Rattle.snap_kept.proofs.Lists.{each_append, each_set}
+use Rattle.snap_kept.proofs.Lists.{each_append, each_set, each_drop}
 use Rattle.snap_kept.proofs.Making.{Plains, FaultIn, IsIn, tuple_in, list_in, dict_in}
 use Rattle.snap_kept.proofs.Using.{item_in, iter_in, get_in, set_in_item, delete_in, get_attr_in, set_attr_in, unpack_in}
 use Rattle.snap_kept.proofs.Acting.{WorldComes, world_same, EffectIn, heap_in, IsPlace, FailsIn, fault_fails, value_fails, again_fails, given_in, LookedIn, load_in, store_in, delete_in as delete_name_in, local_in, load_method_in, import_in, pair_in}
 use Rattle.snap_kept.proofs.Binding.{KeysIn, bind_in, method_call_in, CalleeIn, callee_in}
 use Rattle.snap_kept.proofs.Moduling.{MadeIn, module_in as made_module_in, function_in, named_module_in}
 use Rattle.snap_kept.proofs.Operating.{one_in, two_in}
-use Rattle.snap_kept.proofs.Framing.{cut_more, top_height, slots_on, entries_on, locals_on, role_on, frames_on, entries_move, entries_swap, entries_up, entries_new, new_in, goes_in}
+use Rattle.snap_kept.proofs.Framing.{no_jump, no_jumps, below_of, on_top, cut_more, top_height, slots_on, entries_on, locals_on, role_on, frames_on, entries_swap, entries_new, new_in, goes_in}
 use Rattle.snap_kept.proofs.Moving.{IsThrown, thrown_is, given_thrown, own, own_on, top_low, below_iterator, throw_kept, fail_kept, given_kept, leaves_in, unwinds_in}
 
 each_reverse : {A : Type 0} (P : A → Type 0) (xs : List A) → Each P xs → Each P (reverse xs)
@@ -84,26 +86,42 @@ pairs_of_values library h (x ∷ []) p = tt
 pairs_of_values library h (x ∷ v ∷ vs) p = ((p.1).0, pairs_of_values library h vs ((p.1).1))
 
 -- the entries lie below the cause of a finally that ends
-deep_end : (x : FlowAt) → finds EndFinally x ≡ true → floor x.entries ≤ length x.slots - 1
+deep_end : (x : FlowAt) → finds EndFinally x ≡ true → floor x.entries ≡ length x.slots - 1
 unfolding finds base change takes
 deep_end x h =
     let all = drop (length x.slots - length x.slots) x.slots in
-    let both : (nat_le 1 (length all) && nat_le (floor x.entries) (length all - 1)) ≡ true = (and_parts _ _ (and_parts (fits (takes EndFinally) all) _ h).1).0 in
-    let pair = and_parts (nat_le 1 (length all)) (nat_le (floor x.entries) (length all - 1)) both in
-    let le : floor x.entries ≤ length all - 1 = leb-true _ _ pair.1 in
+    let e : length all - 1 ≡ floor x.entries = eqb-true _ _ (and_parts _ _ (and_parts (fits (takes EndFinally) all) _ h).1).1 in
     let n = length-drop (length x.slots - length x.slots) x.slots in
-    omega (arith, le, n)
+    omega (arith, e, n)
+
+deep_pop : (to : ℕ) (x : FlowAt) → finds (PopExcept to) x ≡ true → floor x.entries ≡ length x.slots
+unfolding finds base change takes
+deep_pop to x h =
+    let all = drop (length x.slots - length x.slots) x.slots in
+    let e : length all - 0 ≡ floor x.entries = eqb-true _ _ (and_parts _ _ (and_parts (fits (takes (PopExcept to)) all) _ h).1).1 in
+    let n = length-drop (length x.slots - length x.slots) x.slots in
+    omega (arith, e, n)
 
 some_action : (x y : Action) → Some x ≡ Some y → x ≡ y
 some_action x y e = cc
 
-low_end : (code : flows.Code) (a : Assigned) → Meets code a → (p : ℕ) (st : Stack) (es : List FlowEntry) → Good code a (flow.Run p st es) → slice_get code.actions p ≡ Some EndFinally → floor es ≤ length st - 1
+low_end : (code : flows.Code) (a : Assigned) → Meets code a → (p : ℕ) (st : Stack) (es : List FlowEntry) → Good code a (flow.Run p st es) → slice_get code.actions p ≡ Some EndFinally → floor es ≡ length st - 1
 low_end code a holds p st es g e =
     let r = g.runs in
     let f = holds.closed p r.at r.is in
     let is : f.action ≡ EndFinally = some_action f.action EndFinally (sym f.is ∙ e) in
     let q = deep_end r.at (subst (λ z. finds z r.at ≡ true) is f.height) in
-    let le = subst (λ z. floor z ≤ length r.at.slots - 1) r.entries q in
+    let le = subst (λ z. floor z ≡ length r.at.slots - 1) r.entries q in
+    let n = stands-length st r.at.slots r.slots in
+    omega (arith, le, n)
+
+low_pop : (code : flows.Code) (a : Assigned) → Meets code a → (to p : ℕ) (st : Stack) (es : List FlowEntry) → Good code a (flow.Run p st es) → slice_get code.actions p ≡ Some (PopExcept to) → floor es ≡ length st
+low_pop code a holds to p st es g e =
+    let r = g.runs in
+    let f = holds.closed p r.at r.is in
+    let is : f.action ≡ PopExcept to = some_action f.action (PopExcept to) (sym f.is ∙ e) in
+    let q = deep_pop to r.at (subst (λ z. finds z r.at ≡ true) is f.height) in
+    let le = subst (λ z. floor z ≡ length r.at.slots) r.entries q in
     let n = stands-length st r.at.slots r.slots in
     omega (arith, le, n)
 
@@ -140,6 +158,17 @@ module _ (library : Library) where
 
   iter_slots : (h : PlainHeap) (over : Val) (at : ℕ) (rest : List Slot) → IsPlain library h over → IsSome (items_in h over) → AreSlots library h rest → AreSlots library h (iter_on over at rest)
   iter_slots h over at rest p some q = ((p, some, (refl, refl, refl)), ((p, some, (refl, refl, refl)), ((p, some, (refl, refl, refl)), ((p, some, tt), q))))
+
+not_le : (m n : ℕ) → suc n ≤ m → nat_le m n ≡ false
+not_le m n le = by (nat_le m n) refl
+  where
+    by : (b : Bool) → nat_le m n ≡ b → nat_le m n ≡ false
+    by false e = e
+    by true e = let le2 : m ≤ n = leb-true m n e in absurd (omega (arith, le, le2))
+
+values_none : (vs : List Val) → no_jumps (map Value vs) ≡ true
+values_none [] = refl
+values_none (v ∷ vs) = values_none vs
 
 module _ (library : Library) (plans : Plans) (follows : Follows plans library) (place : Place) (paid : ℕ) (frame : Frame) (frames : List Frame) (w : PlainWorld) (s : StandsIn (facts_of w.heap.objects) plans library frame)
     (sound : IsSound library w) (fr : IsFrame library w.heap frame) (fs : Each (IsFrame library w.heap) frames) (at : IsPlace library place) where
@@ -193,7 +222,7 @@ module _ (library : Library) (plans : Plans) (follows : Follows plans library) (
   pops n i k t d xs rest e h =
       let q = (lows i k d (xs ++ rest) h).1 in
       let l = length-append xs rest in
-      entries_swap library w.heap [] xs rest frame.entries h.entries (omega (arith, q, l, t, e))
+      entries_swap library w.heap [] xs rest frame.entries h.entries (omega (arith, q, l, t, e)) refl
 
   drops : (n : ℕ) (i : Action) → change i ≡ change Return → length (takes i) ≡ n → D i → AreEntries library w.heap (drop n frame.slots) frame.entries
   drops n i k t d =
@@ -202,13 +231,20 @@ module _ (library : Library) (plans : Plans) (follows : Follows plans library) (
       let b = q.1 in
       let l = length-drop n frame.slots in
       let le : top_height frame.entries ≤ length (drop n frame.slots) = omega (arith, b, l, t) in
-      entries_move library w.heap frame.slots (drop n frame.slots) frame.entries fr.entries le (cut_drop (top_height frame.entries) n frame.slots (omega (arith, a, t)) le)
+      entries_swap library w.heap [] (take n frame.slots) (drop n frame.slots) frame.entries (subst (λ z. AreEntries library w.heap z frame.entries) (sym (take-append-drop n frame.slots)) fr.entries) le refl
+
+  -- the entries are held at the next instruction, and where the flow jumps
+  up : AreHeld (suc frame.position) frame.entries
+  up = held_up frame.position frame.entries fr.held
+
+  jump_held : (i : Action) (to : ℕ) → D i → target i ≡ Some to → change i ≡ change Return → AreHeld to frame.entries
+  jump_held i to d t k = held_go frame.position to frame.entries (jump_kept F A m frame.position s.stack es s.planned i to d t k) fr.marked fr.held
 
   -- on at a position, with slots on what is left
-  land : (q : ℕ) (xs rest : List Slot) (u : PlainWorld) → WorldComes library w u → AreEntries library w.heap rest frame.entries → AreSlots library u.heap (xs ++ rest) → K (go q (xs ++ rest) frame.entries frame frames u)
-  land q xs rest u c e p =
+  land : (q : ℕ) → AreHeld q frame.entries → (xs : List Slot) → no_jumps xs ≡ true → (rest : List Slot) (u : PlainWorld) → WorldComes library w u → AreEntries library w.heap rest frame.entries → AreSlots library u.heap (xs ++ rest) → K (go q (xs ++ rest) frame.entries frame frames u)
+  land q held xs free_of rest u c e p =
       goes_in library q (xs ++ rest) frame.entries frame frames u c.sound (namespace_on w.heap u.heap c.onward frame.names fr.names) (locals_on library w.heap u.heap c.onward frame.locals fr.locals) (role_on library w.heap u.heap c.onward frame.role fr.role) p
-      (entries_swap library u.heap xs [] rest frame.entries (entries_on library w.heap u.heap c.onward rest frame.entries e) (top_low library w.heap rest frame.entries e))
+      (entries_swap library u.heap xs [] rest frame.entries (entries_on library w.heap u.heap c.onward rest frame.entries e) (top_low library w.heap rest frame.entries e) free_of) held
       (frames_on library w.heap u.heap c.onward frames fs)
 
   here : WorldComes library w w
@@ -230,10 +266,10 @@ module _ (library : Library) (plans : Plans) (follows : Follows plans library) (
   does In effect behind p on = paying In (nat_lt paid effect.visits) effect behind p on
 
   gives : (rest : List Slot) (effect : Effect Val) → EffectIn library (IsPlain library) w effect → AreEntries library w.heap rest frame.entries → AreSlots library w.heap rest → K (machine.gives library place paid frame frames w rest effect)
-  gives rest effect p e q = does (IsPlain library) effect _ p (λ v u c x. land (suc frame.position) (Value v ∷ []) rest u c e (x, slots_on library w.heap u.heap c.onward rest q))
+  gives rest effect p e q = does (IsPlain library) effect _ p (λ v u c x. land (suc frame.position) up (Value v ∷ []) refl rest u c e (x, slots_on library w.heap u.heap c.onward rest q))
 
   puts : (rest : List Slot) (effect : Effect Val) → EffectIn library (IsPlain library) w effect → AreEntries library w.heap rest frame.entries → AreSlots library w.heap rest → K (machine.puts library place paid frame frames w rest effect)
-  puts rest effect p e q = does (IsPlain library) effect _ p (λ v u c x. land (suc frame.position) [] rest u c e (slots_on library w.heap u.heap c.onward rest q))
+  puts rest effect p e q = does (IsPlain library) effect _ p (λ v u c x. land (suc frame.position) up [] refl rest u c e (slots_on library w.heap u.heap c.onward rest q))
 
   on : (o : Outcome Val) → IsIn library (IsPlain library) w.heap o → EffectIn library (IsPlain library) w (on_heap w o)
   on o p = heap_in library (IsPlain library) w o sound p
@@ -253,6 +289,8 @@ module _ (library : Library) (plans : Plans) (follows : Follows plans library) (
           role = role_on library w.heap u.heap x.onward frame.role fr.role;
           slots = slots_on library w.heap u.heap x.onward rest p;
           entries = entries_on library w.heap u.heap x.onward rest frame.entries e;
+          held = fr.held;
+          marked = fr.marked;
         },
         frames_on library w.heap u.heap x.onward frames fs,
       ),
@@ -264,7 +302,7 @@ module _ (library : Library) (plans : Plans) (follows : Follows plans library) (
       (fault_at place u TooDeep) (fault_fails library place at u TooDeep ux tt) (thrown_is (fault_at place u TooDeep) (λ facts. fault_known facts place u TooDeep))
 
   run_code : (rest : List Slot) (c : Function) (o : Option Code) (args : List Val) (keys : Keys) → AreEntries library w.heap rest frame.entries → AreSlots library w.heap rest → IsNamespace w.heap c.names → IsPlain library w.heap c.defaults → Plains library w.heap args → KeysIn library w.heap keys → K (machine.run_code library place paid frame frames w rest c o args keys)
-  run_code rest c None args keys e p space d q r = land (suc frame.position) (Value Nil ∷ []) rest w here e (tt, p)
+  run_code rest c None args keys e p space d q r = land (suc frame.position) up (Value Nil ∷ []) refl rest w here e (tt, p)
   run_code rest c (Some code) args keys e p space d q r = does (AreLocals library) (bind w code.params code.given c.defaults args keys) _ (bind_in library w sound code.params code.given c.defaults args keys d q r) (λ slots u x l. entered rest c code slots (has_depth frames) u x e p space l)
 
   run_callee : (rest : List Slot) (c : Callee) (args : List Val) (keys : Keys) → AreEntries library w.heap rest frame.entries → AreSlots library w.heap rest → CalleeIn library w sound c → Plains library w.heap args → KeysIn library w.heap keys → K (machine.run_callee library place paid frame frames w rest c args keys)
@@ -315,8 +353,9 @@ module _ (library : Library) (plans : Plans) (follows : Follows plans library) (
       let ld = length-drop (arguments n) frame.slots in
       let long : length (xs ++ rest) ≡ length (drop (arguments n) frame.slots) = ap length same in
       let le : top_height frame.entries ≤ length rest = omega (arith, b, t, la, ld, long, l) in
-      entries_move library w.heap frame.slots rest frame.entries fr.entries le
-      (sym (cut_more (top_height frame.entries) xs rest le) ∙ ap (flow.cut (top_height frame.entries)) same ∙ cut_drop (top_height frame.entries) (arguments n) frame.slots (omega (arith, a, t)) (omega (arith, le, la, long)))
+      let front : List Slot = take (arguments n) frame.slots in
+      let all : frame.slots ≡ (front ++ xs) ++ rest = sym (take-append-drop (arguments n) frame.slots) ∙ ap (λ (z : List Slot). front ++ z) (sym same) ∙ sym (append_assoc front xs rest) in
+      entries_swap library w.heap [] (front ++ xs) rest frame.entries (subst (λ z. AreEntries library w.heap z frame.entries) all fr.entries) le refl
 
   function_by : (n : ℕ) (i : Action) → change i ≡ change Return → length (takes i) ≡ arguments n + 1 → D i → (c : Operated n (wants.Value ∷ [])) (st : List Slot) → (operands n frame.slots).below ≡ st → AreSlots library w.heap st → K (machine.call_function library place paid frame frames w (operands n frame.slots) st)
   function_by n i k t d c (Value v ∷ rest) e p =
@@ -386,7 +425,7 @@ module _ (library : Library) (plans : Plans) (follows : Follows plans library) (
 
   absent_in : (names : Val) (ps : List Name) (rest : List Slot) (o : Option Name) → AreEntries library w.heap rest frame.entries → AreSlots library w.heap rest → K (machine.import_absent library place paid frame frames w names ps rest o)
   absent_in names ps rest (Some name) e p = begin_in name (entry_in library name) (has_depth frames) refl
-  absent_in names ps rest None e p = land (suc frame.position) (Value (module_named w (machine.wanted library place paid frame frames w names ps)) ∷ []) rest w here e (named_module_in library w sound (machine.wanted library place paid frame frames w names ps), p)
+  absent_in names ps rest None e p = land (suc frame.position) up (Value (module_named w (machine.wanted library place paid frame frames w names ps)) ∷ []) refl rest w here e (named_module_in library w sound (machine.wanted library place paid frame frames w names ps), p)
 
   either : (b : Bool) (x y : State) → K x → K y → K (cond b x y)
   either true x y p q = p
@@ -400,12 +439,12 @@ module _ (library : Library) (plans : Plans) (follows : Follows plans library) (
   looked_slots u (Free v) rest l p = (l, p)
 
   looked_lands : (looked : Looked) (rest : List Slot) (u : PlainWorld) → WorldComes library w u → AreEntries library w.heap rest frame.entries → AreSlots library w.heap rest → LookedIn library u.heap looked → K (machine.next library place paid frame frames w (looked_on looked rest) u)
-  looked_lands (Bound method object) rest u c e p l = land (suc frame.position) (Object (Some object) ∷ Value (Built method) ∷ []) rest u c e (looked_slots u (Bound method object) rest l (slots_on library w.heap u.heap c.onward rest p))
-  looked_lands (Free v) rest u c e p l = land (suc frame.position) (Object None ∷ Value v ∷ []) rest u c e (looked_slots u (Free v) rest l (slots_on library w.heap u.heap c.onward rest p))
+  looked_lands (Bound method object) rest u c e p l = land (suc frame.position) up (Object (Some object) ∷ Value (Built method) ∷ []) refl rest u c e (looked_slots u (Bound method object) rest l (slots_on library w.heap u.heap c.onward rest p))
+  looked_lands (Free v) rest u c e p l = land (suc frame.position) up (Object None ∷ Value v ∷ []) refl rest u c e (looked_slots u (Free v) rest l (slots_on library w.heap u.heap c.onward rest p))
 
   name_in : (op : Op) (name : Name) (st : List Slot) → D (op_action op 0) → IsName library name → Here st → K (machine.name_step library place paid frame frames w op name st)
   unfolding op_action takes change
-  name_in ops.LoadConstString name st d n h = land (suc frame.position) (Value (Str name) ∷ []) st w here h.entries (inl n, h.slots)
+  name_in ops.LoadConstString name st d n h = land (suc frame.position) up (Value (Str name) ∷ []) refl st w here h.entries (inl n, h.slots)
   name_in ops.LoadName name st d n h = gives st (load_global w frame.names name) (load_in library w sound frame.names name fr.names) h.entries h.slots
   name_in ops.LoadGlobal name st d n h = gives st (load_global w frame.names name) (load_in library w sound frame.names name fr.names) h.entries h.slots
   name_in ops.StoreName name (Value v ∷ st) d n h = puts st (store_global w frame.names name v) (store_in library w sound frame.names name v fr.names n (h.slots.0)) (pops 1 (op_action ops.StoreName 0) refl refl d (Value v ∷ []) st refl h) (h.slots.1)
@@ -419,7 +458,7 @@ module _ (library : Library) (plans : Plans) (follows : Follows plans library) (
   name_in ops.ImportName name (Value names ∷ Value level ∷ st) d n h =
       either (is_zero (shown w.heap level)) _ _ (absent_in names (prefixes name) st (first_absent w (prefixes name)) (pops 2 (op_action ops.ImportName 0) refl refl d (Value names ∷ Value level ∷ []) st refl h) ((h.slots.1).1)) (faults RelativeImport tt)
   name_in ops.ImportFrom name (Value o ∷ st) d n h =
-      does (IsPlain library) (import_from w o name) _ (import_in library w sound o name (h.slots.0)) (λ v u c x. land (suc frame.position) (Value v ∷ []) (Value o ∷ st) u c h.entries (x, slots_on library w.heap u.heap c.onward (Value o ∷ st) h.slots))
+      does (IsPlain library) (import_from w o name) _ (import_in library w sound o name (h.slots.0)) (λ v u c x. land (suc frame.position) up (Value v ∷ []) refl (Value o ∷ st) u c h.entries (x, slots_on library w.heap u.heap c.onward (Value o ∷ st) h.slots))
   name_in _ name st d n h = tt
 
   -- instructions with a number
@@ -428,7 +467,7 @@ module _ (library : Library) (plans : Plans) (follows : Follows plans library) (
   locals_land : (locals : Locals) (rest : List Slot) (u : PlainWorld) → WorldComes library w u → AreEntries library w.heap rest frame.entries → AreSlots library w.heap rest → AreLocals library w.heap locals → K (machine.with_locals library place paid frame frames w locals rest u)
   locals_land locals rest u c e p l =
       goes_in library (suc frame.position) rest frame.entries (record frame { locals = locals }) frames u c.sound (namespace_on w.heap u.heap c.onward frame.names fr.names) (locals_on library w.heap u.heap c.onward locals l) (role_on library w.heap u.heap c.onward frame.role fr.role)
-      (slots_on library w.heap u.heap c.onward rest p) (entries_on library w.heap u.heap c.onward rest frame.entries e) (frames_on library w.heap u.heap c.onward frames fs)
+      (slots_on library w.heap u.heap c.onward rest p) (entries_on library w.heap u.heap c.onward rest frame.entries e) up (frames_on library w.heap u.heap c.onward frames fs)
 
   takes_many : (n : ℕ) → length (values_on n []) ≡ n
   takes_many zero = refl
@@ -456,7 +495,7 @@ module _ (library : Library) (plans : Plans) (follows : Follows plans library) (
   unfolding op_action takes change
   unpacks n d (Value v ∷ st) h =
       does (Plains library) (on_heap w (unpack w.heap n v)) _ (heap_in library (Plains library) w (unpack w.heap n v) sound (unpack_in library w.heap sound.heap n v (h.slots.0))) (λ vs u c x.
-      land (suc frame.position) (map Value vs) st u c (pops 1 (op_action ops.UnpackSequence n) refl refl d (Value v ∷ []) st refl h) (values_slots library u.heap vs st x (slots_on library w.heap u.heap c.onward st (h.slots.1))))
+      land (suc frame.position) up (map Value vs) (values_none vs) st u c (pops 1 (op_action ops.UnpackSequence n) refl refl d (Value v ∷ []) st refl h) (values_slots library u.heap vs st x (slots_on library w.heap u.heap c.onward st (h.slots.1))))
   unpacks n d _ h = tt
 
   with_defaults : (n : ℕ) → D (op_action ops.MakeFunctionDefargs n) → (st : List Slot) → Here st → K (machine.number_step library place paid frame frames w ops.MakeFunctionDefargs n st)
@@ -523,21 +562,29 @@ module _ (library : Library) (plans : Plans) (follows : Follows plans library) (
   onto (KeptReturn v) rest a p = absurd a
   onto (KeptJump target count it) rest a p = absurd a
 
+  any_none : (x : Slot) → AnySlot x → no_jump x ≡ true
+  any_none (Value v) a = refl
+  any_none Null a = refl
+  any_none (Object o) a = absurd a
+  any_none (Iter over place part) a = absurd a
+  any_none (KeptReturn v) a = absurd a
+  any_none (KeptJump target count it) a = absurd a
+
   pop_top : D (Straight (wants.Top ∷ []) []) → K (L ops.PopTop frame.slots)
   pop_top d =
       top wants.Top [] (λ st ss. AreSlots library w.heap st → AreEntries library w.heap st frame.entries → top_height frame.entries ≤ length st - 1 → K (L ops.PopTop st)) refl
-      (λ x t rest below h is r wr p q le. land (suc frame.position) [] rest w here (entries_swap library w.heap [] (x ∷ []) rest frame.entries q (omega (arith, le))) (some_slot library facts w.heap x t rest h p))
+      (λ x t rest below h is r wr p q le. land (suc frame.position) up [] refl rest w here (entries_swap library w.heap [] (x ∷ []) rest frame.entries q (omega (arith, le)) refl) (some_slot library facts w.heap x t rest h p))
       frame.slots s.stack s.shows (straight (wants.Top ∷ []) [] d) fr.slots fr.entries (straight_low (wants.Top ∷ []) [] d)
 
   dup_top : (gs : List Give) → D (Straight (wants.Value ∷ []) gs) → K (L ops.DupTop frame.slots)
   dup_top gs d =
       one_value [] (λ st ss. AreSlots library w.heap st → AreEntries library w.heap st frame.entries → K (L ops.DupTop st))
-      (λ v t rest below h r wr p q. land (suc frame.position) (Value v ∷ []) (Value v ∷ rest) w here q (p.0, p)) frame.slots s.stack s.shows (straight (wants.Value ∷ []) gs d) fr.slots fr.entries
+      (λ v t rest below h r wr p q. land (suc frame.position) up (Value v ∷ []) refl (Value v ∷ rest) w here q (p.0, p)) frame.slots s.stack s.shows (straight (wants.Value ∷ []) gs d) fr.slots fr.entries
 
   dup_two : (gs : List Give) → D (Straight (wants.Value ∷ wants.Value ∷ []) gs) → K (L ops.DupTopTwo frame.slots)
   dup_two gs d =
       two_values [] (λ st ss. AreSlots library w.heap st → AreEntries library w.heap st frame.entries → K (L ops.DupTopTwo st))
-      (λ u v t1 t2 rest below h1 h2 r wr p q. land (suc frame.position) (Value u ∷ Value v ∷ []) (Value u ∷ Value v ∷ rest) w here q (p.0, ((p.1).0, p))) frame.slots s.stack s.shows (straight (wants.Value ∷ wants.Value ∷ []) gs d) fr.slots fr.entries
+      (λ u v t1 t2 rest below h1 h2 r wr p q. land (suc frame.position) up (Value u ∷ Value v ∷ []) refl (Value u ∷ Value v ∷ rest) w here q (p.0, ((p.1).0, p))) frame.slots s.stack s.shows (straight (wants.Value ∷ wants.Value ∷ []) gs d) fr.slots fr.entries
 
   rot_two : (gs : List Give) → D (Straight (wants.ValueOrNull ∷ wants.ValueOrNull ∷ []) gs) → K (L ops.RotTwo frame.slots)
   rot_two gs d =
@@ -546,7 +593,7 @@ module _ (library : Library) (plans : Plans) (follows : Follows plans library) (
       (λ y u rest below h2 wt2 r2 wr2 p q le.
       let a = slot_of x t h wt (y ∷ rest) p in
       let b = slot_of y u h2 wt2 rest (a.1) in
-      land (suc frame.position) (y ∷ x ∷ []) rest w here (entries_swap library w.heap [] (x ∷ y ∷ []) rest frame.entries q (omega (arith, le))) (onto y (x ∷ rest) (b.0) (onto x rest (a.0) (b.1)))) st ss r wr)
+      land (suc frame.position) up (y ∷ x ∷ []) (and_from (no_jump y) (no_jump x && true) (any_none y (b.0)) (and_from (no_jump x) true (any_none x (a.0)) refl)) rest w here (entries_swap library w.heap [] (x ∷ y ∷ []) rest frame.entries q (omega (arith, le)) refl) (onto y (x ∷ rest) (b.0) (onto x rest (a.0) (b.1)))) st ss r wr)
       frame.slots s.stack s.shows (straight (wants.ValueOrNull ∷ wants.ValueOrNull ∷ []) gs d) fr.slots fr.entries (straight_low (wants.ValueOrNull ∷ wants.ValueOrNull ∷ []) gs d)
 
   rot_three : (gs : List Give) → D (Straight (wants.ValueOrNull ∷ wants.ValueOrNull ∷ wants.ValueOrNull ∷ []) gs) → K (L ops.RotThree frame.slots)
@@ -559,7 +606,7 @@ module _ (library : Library) (plans : Plans) (follows : Follows plans library) (
       let a = slot_of x t h wt (y ∷ z ∷ rest) p in
       let b = slot_of y u h2 wt2 (z ∷ rest) (a.1) in
       let c = slot_of z v h3 wt3 rest (b.1) in
-      land (suc frame.position) (y ∷ z ∷ x ∷ []) rest w here (entries_swap library w.heap [] (x ∷ y ∷ z ∷ []) rest frame.entries q (omega (arith, le))) (onto y (z ∷ x ∷ rest) (b.0) (onto z (x ∷ rest) (c.0) (onto x rest (a.0) (c.1))))) st2 ss2 r2 wr2) st ss r wr)
+      land (suc frame.position) up (y ∷ z ∷ x ∷ []) (and_from (no_jump y) (no_jump z && (no_jump x && true)) (any_none y (b.0)) (and_from (no_jump z) (no_jump x && true) (any_none z (c.0)) (and_from (no_jump x) true (any_none x (a.0)) refl))) rest w here (entries_swap library w.heap [] (x ∷ y ∷ z ∷ []) rest frame.entries q (omega (arith, le)) refl) (onto y (z ∷ x ∷ rest) (b.0) (onto z (x ∷ rest) (c.0) (onto x rest (a.0) (c.1))))) st2 ss2 r2 wr2) st ss r wr)
       frame.slots s.stack s.shows (straight ws gs d) fr.slots fr.entries (straight_low ws gs d)
 
   -- the end of a finally
@@ -570,39 +617,40 @@ module _ (library : Library) (plans : Plans) (follows : Follows plans library) (
   if_found false st g = absurd g.runs
 
   resumes : (cause : Slot) (t : flow.Slot) (rest : List Slot) (stack : Stack) (entries : List states.Entry) → ShowsIn facts cause t → ShowsAllIn facts rest stack → ((b : Bool) → Good F A (flow.resume t b frame.position (map flow_entry entries) stack))
-      → AreSlots library w.heap (cause ∷ rest) → AreEntries library w.heap rest entries → K (resume cause rest entries frame frames w)
-  resumes cause t rest stack entries nothing r g p q = goes_in library (suc frame.position) rest entries frame frames w sound fr.names fr.locals fr.role (p.1) q fs
-  resumes cause t rest stack entries (exception {x = x} is) r g p q = throw_kept library x (record frame { slots = rest; entries = entries }) frames w sound (p.0) (record { names = fr.names; locals = fr.locals; role = fr.role }) q fs
-  resumes cause t rest stack entries (kept_return {v = v}) r g p q = leaves_in library v entries (record frame { slots = rest }) frames w sound (p.0) (record { names = fr.names; locals = fr.locals; role = fr.role }) q fs
-  resumes cause t rest stack entries (kept_jump {target = target} {count = count} {iterator = it}) r g p q = unwinds_in library facts F A frame frames w sound (own library w.heap frame fr) fs target it count entries rest stack r (g true) p q
-  resumes cause t rest stack entries value r g p q = absurd (g true).runs
-  resumes cause t rest stack entries null r g p q = absurd (g true).runs
-  resumes cause t rest stack entries iterator1 r g p q = absurd (g true).runs
-  resumes cause t rest stack entries iterator2 r g p q = absurd (g true).runs
-  resumes cause t rest stack entries iterator3 r g p q = absurd (g true).runs
-  resumes cause t rest stack entries iterator4 r g p q = absurd (g true).runs
+      → AreSlots library w.heap (cause ∷ rest) → AreEntries library w.heap rest entries → AreHeld frame.position entries → LeadsHeld entries (Some cause) → K (resume cause rest entries frame frames w)
+  resumes cause t rest stack entries nothing r g p q held lead = goes_in library (suc frame.position) rest entries frame frames w sound fr.names fr.locals fr.role (p.1) q (held_up frame.position entries held) fs
+  resumes cause t rest stack entries (exception {x = x} is) r g p q held lead = throw_kept library x (record frame { slots = rest; entries = entries }) frames w sound (p.0) (record { names = fr.names; locals = fr.locals; role = fr.role }) (below_of library w.heap rest entries q) fs
+  resumes cause t rest stack entries (kept_return {v = v}) r g p q held lead = leaves_in library v entries (record frame { slots = rest }) frames w sound (p.0) (record { names = fr.names; locals = fr.locals; role = fr.role }) (below_of library w.heap rest entries q) fs
+  resumes cause t rest stack entries (kept_jump {target = target} {count = count} {iterator = it}) r g p q held lead = unwinds_in library facts F A frame frames w sound (own library w.heap frame fr) fs target it count entries rest stack r (g true) p q lead
+  resumes cause t rest stack entries value r g p q held lead = absurd (g true).runs
+  resumes cause t rest stack entries null r g p q held lead = absurd (g true).runs
+  resumes cause t rest stack entries iterator1 r g p q held lead = absurd (g true).runs
+  resumes cause t rest stack entries iterator2 r g p q held lead = absurd (g true).runs
+  resumes cause t rest stack entries iterator3 r g p q held lead = absurd (g true).runs
+  resumes cause t rest stack entries iterator4 r g p q held lead = absurd (g true).runs
 
   ends : (cause : Slot) (t : flow.Slot) (rest : List Slot) (stack : Stack) (entries : List states.Entry) → ShowsIn facts cause t → ShowsAllIn facts rest stack → ((b : Bool) → Good F A (flow.act EndFinally b frame.position (t ∷ stack) (map flow_entry entries)))
-      → AreSlots library w.heap (cause ∷ rest) → AreEntries library w.heap (cause ∷ rest) entries → top_height entries ≤ length rest → K (machine.end_finally library place paid frame frames w cause rest entries)
-  ends cause t rest stack [] h r g p q le = tt
-  ends cause t rest stack (e ∷ entries) h r g p q le =
+      → AreSlots library w.heap (cause ∷ rest) → AreEntries library w.heap (cause ∷ rest) entries → AreHeld frame.position entries → top_height entries ≡ length rest → K (machine.end_finally library place paid frame frames w cause rest entries)
+  ends cause t rest stack [] h r g p q held low = tt
+  ends cause t rest stack (e ∷ entries) h r g p q held low =
+      let same : cut e.height (cause ∷ rest) ≡ rest = cut_more e.height (cause ∷ []) rest (omega (arith, low)) ∙ cut_all e.height rest (omega (arith, low)) in
       resumes cause t rest stack entries h r (λ b. (if_found e.active (flow.resume t b frame.position (map flow_entry entries) stack) (g b)).1) p
-      (entries_up library w.heap e.height rest entries le (subst (λ z. AreEntries library w.heap z entries) (cut_more e.height (cause ∷ []) rest le) (q.2)))
+      (subst (λ z. AreEntries library w.heap z entries) same (q.2)) (held.1) (subst (LeadsHeld entries) (on_top e.height cause rest (sym low)) (q.4))
 
-  end_by : (st : List Slot) (stack : Stack) (entries : List states.Entry) → ShowsAllIn facts st stack → entries ≡ frame.entries → ((b : Bool) → Good F A (flow.act EndFinally b frame.position stack (map flow_entry entries))) → AreSlots library w.heap st → AreEntries library w.heap st entries → top_height entries ≤ length st - 1 → K (L ops.EndFinally st)
-  end_by st stack entries none e g p q le = absurd (g true).runs
-  end_by st stack entries (more {s = x} {t = t} {slots = rest} {stack = ss} sh r) e g p q le = subst (λ z. K (machine.end_finally library place paid frame frames w x rest z)) e (ends x t rest ss entries sh r g p q (omega (arith, le)))
-  end_by st stack [] (bound is r) e g p q le = absurd (g true).runs
-  end_by st stack (x ∷ entries) (bound is r) e g p q le = absurd (if_found x.active _ (g true)).1.runs
-  end_by st stack [] (free r) e g p q le = absurd (g true).runs
-  end_by st stack (x ∷ entries) (free r) e g p q le = absurd (if_found x.active _ (g true)).1.runs
+  end_by : (st : List Slot) (stack : Stack) (entries : List states.Entry) → ShowsAllIn facts st stack → entries ≡ frame.entries → ((b : Bool) → Good F A (flow.act EndFinally b frame.position stack (map flow_entry entries))) → AreSlots library w.heap st → AreEntries library w.heap st entries → AreHeld frame.position entries → top_height entries ≡ length st - 1 → K (L ops.EndFinally st)
+  end_by st stack entries none e g p q held le = absurd (g true).runs
+  end_by st stack entries (more {s = x} {t = t} {slots = rest} {stack = ss} sh r) e g p q held le = subst (λ z. K (machine.end_finally library place paid frame frames w x rest z)) e (ends x t rest ss entries sh r g p q held (omega (arith, le)))
+  end_by st stack [] (bound is r) e g p q held le = absurd (g true).runs
+  end_by st stack (x ∷ entries) (bound is r) e g p q held le = absurd (if_found x.active _ (g true)).1.runs
+  end_by st stack [] (free r) e g p q held le = absurd (g true).runs
+  end_by st stack (x ∷ entries) (free r) e g p q held le = absurd (if_found x.active _ (g true)).1.runs
 
   end_in : D EndFinally → K (L ops.EndFinally frame.slots)
   end_in d =
       let n = shows-length frame.slots s.stack s.shows in
       let f = floor_top frame.entries in
       let l = low_end F A m frame.position s.stack es s.planned d in
-      end_by frame.slots s.stack frame.entries s.shows refl (λ b. act EndFinally b d) fr.slots fr.entries (omega (arith, n, f, l))
+      end_by frame.slots s.stack frame.entries s.shows refl (λ b. act EndFinally b d) fr.slots fr.entries fr.held (omega (arith, n, f, l))
 
   -- raises
   again_by : (handled : List ℕ) → ThrowsKnown facts (raise_again place w handled) → IsThrown (raise_again place w handled)
@@ -611,10 +659,10 @@ module _ (library : Library) (plans : Plans) (follows : Follows plans library) (
 
   plain_in : (op : Op) (st : List Slot) → D (op_action op 0) → st ≡ frame.slots → Here st → K (L op st)
   unfolding op_action takes change
-  plain_in ops.LoadConstFalse st d is h = land (suc frame.position) (Value (Truth false) ∷ []) st w here h.entries (tt, h.slots)
-  plain_in ops.LoadConstTrue st d is h = land (suc frame.position) (Value (Truth true) ∷ []) st w here h.entries (tt, h.slots)
-  plain_in ops.LoadConstNone st d is h = land (suc frame.position) (Value Nil ∷ []) st w here h.entries (tt, h.slots)
-  plain_in ops.LoadNull st d is h = land (suc frame.position) (Null ∷ []) st w here h.entries h.slots
+  plain_in ops.LoadConstFalse st d is h = land (suc frame.position) up (Value (Truth false) ∷ []) refl st w here h.entries (tt, h.slots)
+  plain_in ops.LoadConstTrue st d is h = land (suc frame.position) up (Value (Truth true) ∷ []) refl st w here h.entries (tt, h.slots)
+  plain_in ops.LoadConstNone st d is h = land (suc frame.position) up (Value Nil ∷ []) refl st w here h.entries (tt, h.slots)
+  plain_in ops.LoadNull st d is h = land (suc frame.position) up (Null ∷ []) refl st w here h.entries h.slots
   plain_in ops.LoadSubscr (Value i ∷ Value o ∷ st) d is h = gives st (on_heap w (get_item w.heap o i)) (on (get_item w.heap o i) (get_in library w.heap sound.heap o i ((h.slots.1).0) (h.slots.0))) (pops 2 (op_action ops.LoadSubscr 0) refl refl d (Value i ∷ Value o ∷ []) st refl h) ((h.slots.1).1)
   plain_in ops.StoreSubscr (Value i ∷ Value o ∷ Value v ∷ st) d is h = puts st (on_heap w (set_item w.heap o i v)) (on (set_item w.heap o i v) (set_in_item library w.heap sound.heap o i v ((h.slots.1).0) (h.slots.0) (((h.slots.1).1).0))) (pops 3 (op_action ops.StoreSubscr 0) refl refl d (Value i ∷ Value o ∷ Value v ∷ []) st refl h) (((h.slots.1).1).1)
   plain_in ops.StoreSubscr (Value i ∷ Value o ∷ Null ∷ st) d is h = puts st (on_heap w (delete_item w.heap o i)) (on (delete_item w.heap o i) (delete_in library w.heap sound.heap o i ((h.slots.1).0) (h.slots.0))) (pops 3 (op_action ops.StoreSubscr 0) refl refl d (Value i ∷ Value o ∷ Null ∷ []) st refl h) ((h.slots.1).1)
@@ -625,13 +673,13 @@ module _ (library : Library) (plans : Plans) (follows : Follows plans library) (
   plain_in ops.RotThree st d is h = subst (λ z. K (L ops.RotThree z)) (sym is) (rot_three _ d)
   plain_in ops.GetIterStack (Value v ∷ st) d is h =
       does (λ k u. (u ≡ v) × IsSome (items_in w.heap v)) (on_heap w (use_iter w.heap v)) _ (heap_in library (λ k u. (u ≡ v) × IsSome (items_in w.heap v)) w (use_iter w.heap v) sound (iter_in library w.heap sound.heap v (h.slots.0))) (λ over u c x.
-      land (suc frame.position) (iter_on over 0 []) st u c (pops 1 (op_action ops.GetIterStack 0) refl refl d (Value v ∷ []) st refl h)
+      land (suc frame.position) up (iter_on over 0 []) refl st u c (pops 1 (op_action ops.GetIterStack 0) refl refl d (Value v ∷ []) st refl h)
       (subst (λ z. AreSlots library u.heap (iter_on z 0 st)) (sym (x.0)) (slots_on library w.heap u.heap c.onward (iter_on v 0 st) (iter_slots library w.heap v 0 st (h.slots.0) (x.1) (h.slots.1)))))
   plain_in ops.StoreMap (Value k ∷ Value v ∷ Value o ∷ st) d is h =
       let e = pops 3 (op_action ops.StoreMap 0) refl refl d (Value k ∷ Value v ∷ Value o ∷ []) st refl h in
-      puts (Value o ∷ st) (store_pair w o k v) (pair_in library w sound o k v (((h.slots.1).1).0) (h.slots.0) ((h.slots.1).0)) (entries_swap library w.heap (Value o ∷ []) [] st frame.entries e (top_low library w.heap st frame.entries e)) ((h.slots.1).1)
+      puts (Value o ∷ st) (store_pair w o k v) (pair_in library w sound o k v (((h.slots.1).1).0) (h.slots.0) ((h.slots.1).0)) (entries_swap library w.heap (Value o ∷ []) [] st frame.entries e (top_low library w.heap st frame.entries e) refl) ((h.slots.1).1)
   plain_in ops.ReturnValue (Value v ∷ st) d is h =
-      leaves_in library v frame.entries (record frame { slots = st }) frames w sound (h.slots.0) (record { names = fr.names; locals = fr.locals; role = fr.role }) (pops 1 (op_action ops.ReturnValue 0) refl refl d (Value v ∷ []) st refl h) fs
+      leaves_in library v frame.entries (record frame { slots = st }) frames w sound (h.slots.0) (record { names = fr.names; locals = fr.locals; role = fr.role }) (below_of library w.heap st frame.entries (pops 1 (op_action ops.ReturnValue 0) refl refl d (Value v ∷ []) st refl h)) fs
   plain_in ops.RaiseObj (Value v ∷ st) d is h = fails (raise_value place w v) (value_fails library place at w v sound) (thrown_is (raise_value place w v) (λ facts. value_known facts place w v))
   plain_in ops.RaiseLast st d is h = fails (raise_again place w (kept_of frame.entries)) (again_fails library place at w (kept_of frame.entries) sound) (again_by (kept_of frame.entries) (again_known facts place w frame.entries s.kept))
   plain_in ops.EndFinally st d is h = subst (λ z. K (L ops.EndFinally z)) (sym is) (end_in d)
@@ -643,42 +691,93 @@ module _ (library : Library) (plans : Plans) (follows : Follows plans library) (
   abbrev J : Op → ℕ → List Slot → State
   J op to st = machine.jump_step library place paid frame frames w op to st
 
-  sets_up : (to : ℕ) (last : Bool) (st : List Slot) → Here st → K (machine.set_up library place paid frame frames w to last st)
-  sets_up to last st h =
+  -- the entries below a new one are held at its handler
+  new_held : (to : ℕ) (last : Bool) → D (Setup to last) → AreHeld to frame.entries
+  unfolding falls change
+  new_held to last d = by (nat_eq to (suc frame.position)) refl first
+    where
+      q : ℕ
+      q = suc frame.position
+
+      new : FlowEntry
+      new = record { handler = to; is_finally = last; active = false; height = length s.stack }
+
+      first : cond (nat_eq to q) (nat_le to q) (nat_lt q to) ≡ true
+      first = (and_parts (cond (nat_eq to q) (nat_le to q) (nat_lt q to)) (is_marked q (map (mark q) es)) (next_marks F A m frame.position s.stack es s.planned (Setup to last) d refl)).0
+
+      raised : all_marked (cond (nat_le to q) (raise_ways (map (flow.remark q) es)) (way_in (flow.remark q new) (map (flow.remark q) es) ∷ [])) ≡ true
+      raised = raise_marks F A m q s.stack (map (flow.remark q) (new ∷ es)) (act (Setup to last) true d)
+
+      inner : (b : Bool) → nat_le to q ≡ b → b ≡ false → is_marked to (map (mark to) (map (flow.remark q) es)) ≡ true
+      inner true e f = absurd (true≢false f)
+      inner false e f =
+          let way : all_marked (way_in (flow.remark q new) (map (flow.remark q) es) ∷ []) ≡ true = subst (λ z. all_marked (cond z (raise_ways (map (flow.remark q) es)) (way_in (flow.remark q new) (map (flow.remark q) es) ∷ [])) ≡ true) e raised in
+          (and_parts _ (is_marked to (map (mark to) (map (flow.remark q) es))) (and_parts _ true way).0).1
+
+      further : nat_lt q to ≡ true → AreHeld to frame.entries
+      further lt =
+          let less : suc q ≤ to = ltb-true q to lt in
+          let off : nat_le to q ≡ false = not_le to q (omega (arith, less)) in
+          let marks : is_marked to (map (mark to) (map flow_entry (map (states.remark q) frame.entries))) ≡ true = subst (λ z. is_marked to (map (mark to) z) ≡ true) (flow_remarked q frame.entries) (inner (nat_le to q) refl off) in
+          held_back to q frame.entries (held_go q to (map (states.remark q) frame.entries) marks (all_marks q frame.entries) (held_marked q q frame.entries up))
+
+      by : (b : Bool) → nat_eq to q ≡ b → cond b (nat_le to q) (nat_lt q to) ≡ true → AreHeld to frame.entries
+      by true e f = subst (λ z. AreHeld z frame.entries) (sym (eqb-true to q e)) up
+      by false e f = further f
+
+  sets_up : (to : ℕ) (last : Bool) (st : List Slot) → D (Setup to last) → Here st → K (machine.set_up library place paid frame frames w to last st)
+  sets_up to last st d h =
       let new : states.Entry = record { handler = to; is_finally = last; height = length st; active = false; kept = None } in
-      goes_in library (suc frame.position) st (new ∷ frame.entries) frame frames w sound fr.names fr.locals fr.role h.slots (entries_new library w.heap new st frame.entries refl h.slots h.entries) fs
+      goes_in library (suc frame.position) st (new ∷ frame.entries) frame frames w sound fr.names fr.locals fr.role h.slots (entries_new library w.heap new st frame.entries refl h.slots h.entries (new_held to last d)) (inl refl, up) fs
 
-  pops_by : (to : ℕ) (st : List Slot) (entries : List states.Entry) → AreSlots library w.heap st → AreEntries library w.heap st entries → K (machine.pop_except library place paid frame frames w to st entries)
-  pops_by to st [] p q = tt
-  pops_by to st (e ∷ entries) p q = goes_in library to st entries frame frames w sound fr.names fr.locals fr.role p (entries_up library w.heap e.height st entries (q.0) (q.2)) fs
+  pops_by : (to : ℕ) (st : List Slot) (entries : List states.Entry) → AreSlots library w.heap st → AreEntries library w.heap st entries → is_marked to (map (mark to) (rest_of (map flow_entry entries))) ≡ true → Each (IsMarked frame.position) entries → AreHeld frame.position entries → top_height entries ≡ length st
+      → K (machine.pop_except library place paid frame frames w to st entries)
+  pops_by to st [] p q mk k held low = tt
+  pops_by to st (e ∷ entries) p q mk k held low =
+      goes_in library to st entries frame frames w sound fr.names fr.locals fr.role p (subst (λ z. AreEntries library w.heap z entries) (cut_all e.height st (omega (arith, low))) (q.2)) (held_go frame.position to entries mk (k.1) (held.1)) fs
 
-  next_in : (b : Bool) (to : ℕ) (over : Val) (place_at : ℕ) (rest : List Slot) → IsPlain library w.heap over → IsSome (items_in w.heap over) → AreSlots library w.heap rest → AreEntries library w.heap rest frame.entries → K (machine.next_item library place paid frame frames w b to over place_at rest)
-  next_in true to over place_at rest p some q e =
+  pops_in : (to : ℕ) → D (PopExcept to) → K (J ops.PopExceptJump to frame.slots)
+  unfolding target change
+  pops_in to d =
+      let n = shows-length frame.slots s.stack s.shows in
+      let f = floor_top frame.entries in
+      let l = low_pop F A m to frame.position s.stack es s.planned d in
+      pops_by to frame.slots frame.entries fr.slots fr.entries (jump_marks F A m frame.position s.stack es s.planned (PopExcept to) to d refl) fr.marked fr.held (omega (arith, n, f, l))
+
+  next_in : (b : Bool) (to : ℕ) (over : Val) (place_at : ℕ) (rest : List Slot) → IsPlain library w.heap over → IsSome (items_in w.heap over) → AreSlots library w.heap rest → AreEntries library w.heap rest frame.entries → AreHeld to frame.entries → K (machine.next_item library place paid frame frames w b to over place_at rest)
+  next_in true to over place_at rest p some q e held =
       does (IsPlain library) (on_heap w (item_of w.heap over place_at)) _ (heap_in library (IsPlain library) w (item_of w.heap over place_at) sound (item_in library w.heap sound.heap over place_at p)) (λ v u c x.
-      land (suc frame.position) (Value v ∷ iter_on over (suc place_at) []) rest u c e (x, slots_on library w.heap u.heap c.onward (iter_on over (suc place_at) rest) (iter_slots library w.heap over (suc place_at) rest p some q)))
-  next_in false to over place_at rest p some q e = land to [] rest w here e q
+      land (suc frame.position) up (Value v ∷ iter_on over (suc place_at) []) refl rest u c e (x, slots_on library w.heap u.heap c.onward (iter_on over (suc place_at) rest) (iter_slots library w.heap over (suc place_at) rest p some q)))
+  next_in false to over place_at rest p some q e held = land to held [] refl rest w here e q
 
   for_in : (to : ℕ) (gs there : List Give) → D (Branch iterator gs there to) → K (J ops.ForIter to frame.slots)
-  unfolding takes change
+  unfolding takes change target
   for_in to gs there d =
       let g = (branch_on F A (fine (plans frame.module_name frame.code) s.code) m iterator gs there to frame.position s.stack es s.planned d).0 in
       one_iterator (λ st ss. AreSlots library w.heap st → AreEntries library w.heap st frame.entries → top_height frame.entries ≤ length st - 4 → K (J ops.ForIter to st))
       (λ over place_at x y z rest below r p q le. next_in (nat_lt place_at (length_of w.heap over)) to over place_at rest ((p.0).0) ((p.0).1) (below_iterator library w.heap over place_at x y z rest p)
-      (entries_swap library w.heap [] (Iter over place_at 3 ∷ x ∷ y ∷ z ∷ []) rest frame.entries q (omega (arith, le))))
+      (entries_swap library w.heap [] (Iter over place_at 3 ∷ x ∷ y ∷ z ∷ []) rest frame.entries q (omega (arith, le)) refl) (jump_held (Branch iterator gs there to) to d refl refl))
       frame.slots s.stack s.shows g fr.slots fr.entries ((lows (Branch iterator gs there to) refl d frame.slots whole).1)
 
   jump_in : (op : Op) (to : ℕ) (st : List Slot) → D (jump_action op to) → st ≡ frame.slots → Here st → K (J op to st)
-  unfolding jump_action takes change
-  jump_in ops.Jump to st d is h = land to [] st w here h.entries h.slots
-  jump_in ops.PopJumpIfTrue to (Value v ∷ st) d is h = let e = pops 1 (jump_action ops.PopJumpIfTrue to) refl refl d (Value v ∷ []) st refl h in either (truth w.heap v) _ _ (land to [] st w here e (h.slots.1)) (land (suc frame.position) [] st w here e (h.slots.1))
-  jump_in ops.PopJumpIfFalse to (Value v ∷ st) d is h = let e = pops 1 (jump_action ops.PopJumpIfFalse to) refl refl d (Value v ∷ []) st refl h in either (truth w.heap v) _ _ (land (suc frame.position) [] st w here e (h.slots.1)) (land to [] st w here e (h.slots.1))
-  jump_in ops.JumpIfTrueOrPop to (Value v ∷ st) d is h = let e = pops 1 (jump_action ops.JumpIfTrueOrPop to) refl refl d (Value v ∷ []) st refl h in either (truth w.heap v) _ _ (land to [] (Value v ∷ st) w here h.entries h.slots) (land (suc frame.position) [] st w here e (h.slots.1))
-  jump_in ops.JumpIfFalseOrPop to (Value v ∷ st) d is h = let e = pops 1 (jump_action ops.JumpIfFalseOrPop to) refl refl d (Value v ∷ []) st refl h in either (truth w.heap v) _ _ (land (suc frame.position) [] st w here e (h.slots.1)) (land to [] (Value v ∷ st) w here h.entries h.slots)
-  jump_in ops.SetupExcept to st d is h = sets_up to false st h
-  jump_in ops.SetupFinally to st d is h = sets_up to true st h
-  jump_in ops.PopExceptJump to st d is h = pops_by to st frame.entries h.slots h.entries
+  unfolding jump_action takes change target
+  jump_in ops.Jump to st d is h = land to (jump_held (jump_action ops.Jump to) to d refl refl) [] refl st w here h.entries h.slots
+  jump_in ops.PopJumpIfTrue to (Value v ∷ st) d is h = let e = pops 1 (jump_action ops.PopJumpIfTrue to) refl refl d (Value v ∷ []) st refl h in either (truth w.heap v) _ _ (land to (jump_held (jump_action ops.PopJumpIfTrue to) to d refl refl) [] refl st w here e (h.slots.1)) (land (suc frame.position) up [] refl st w here e (h.slots.1))
+  jump_in ops.PopJumpIfFalse to (Value v ∷ st) d is h = let e = pops 1 (jump_action ops.PopJumpIfFalse to) refl refl d (Value v ∷ []) st refl h in either (truth w.heap v) _ _ (land (suc frame.position) up [] refl st w here e (h.slots.1)) (land to (jump_held (jump_action ops.PopJumpIfFalse to) to d refl refl) [] refl st w here e (h.slots.1))
+  jump_in ops.JumpIfTrueOrPop to (Value v ∷ st) d is h = let e = pops 1 (jump_action ops.JumpIfTrueOrPop to) refl refl d (Value v ∷ []) st refl h in either (truth w.heap v) _ _ (land to (jump_held (jump_action ops.JumpIfTrueOrPop to) to d refl refl) [] refl (Value v ∷ st) w here h.entries h.slots) (land (suc frame.position) up [] refl st w here e (h.slots.1))
+  jump_in ops.JumpIfFalseOrPop to (Value v ∷ st) d is h = let e = pops 1 (jump_action ops.JumpIfFalseOrPop to) refl refl d (Value v ∷ []) st refl h in either (truth w.heap v) _ _ (land (suc frame.position) up [] refl st w here e (h.slots.1)) (land to (jump_held (jump_action ops.JumpIfFalseOrPop to) to d refl refl) [] refl (Value v ∷ st) w here h.entries h.slots)
+  jump_in ops.SetupExcept to st d is h = sets_up to false st d h
+  jump_in ops.SetupFinally to st d is h = sets_up to true st d h
+  jump_in ops.PopExceptJump to st d is h = subst (λ z. K (J ops.PopExceptJump to z)) (sym is) (pops_in to d)
   jump_in ops.ForIter to st d is h = subst (λ z. K (J ops.ForIter to z)) (sym is) (for_in to _ _ d)
   jump_in _ to st d is h = tt
+
+  unwind_held : (to count : ℕ) (it : Bool) → D (Unwind to count it) → AreHeld to (drop count frame.entries)
+  unfolding target change
+  unwind_held to count it d =
+      held_go frame.position to (drop count frame.entries)
+      (subst (λ z. is_marked to (map (mark to) z) ≡ true) (drop-map flow_entry count frame.entries) (jump_marks F A m frame.position s.stack es s.planned (Unwind to count it) to d refl))
+      (each_drop (IsMarked frame.position) count frame.entries fr.marked) (each_drop (IsHeld frame.position) count frame.entries fr.held)
 
   -- any instruction
   -- ===============
@@ -697,7 +796,7 @@ module _ (library : Library) (plans : Plans) (follows : Follows plans library) (
   unfolding instr_action
   instr_in (instrs.Plain op) d = plain_in op frame.slots d refl whole
   instr_in (instrs.Num op n) d = number_in op n d
-  instr_in (instrs.Int z) d = land (suc frame.position) (Value (Int z) ∷ []) frame.slots w here fr.entries (tt, fr.slots)
+  instr_in (instrs.Int z) d = land (suc frame.position) up (Value (Int z) ∷ []) refl frame.slots w here fr.entries (tt, fr.slots)
   instr_in (instrs.Unary n) d = one_by n frame.slots (unary_at n) refl d whole
   instr_in (instrs.Binary n) d = two_by n frame.slots (operator_at n) refl d whole
   instr_in _ d = tt
@@ -705,6 +804,6 @@ module _ (library : Library) (plans : Plans) (follows : Follows plans library) (
   pub instruction_in : (item : Item) → D (action_of item) → ((op : Op) (text : Name) → item ≡ Names op text → IsName library text) → ((v : Val) → item ≡ Loads v → IsConstant library v) → K (machine.item_step library place paid frame frames w item)
   instruction_in (Plain instr) d names loads = instr_in instr d
   instruction_in (Names op text) d names loads = name_in op text frame.slots d (names op text refl) whole
-  instruction_in (Loads v) d names loads = land (suc frame.position) (Value v ∷ []) frame.slots w here fr.entries (constant_plain library w.heap v (loads v refl), fr.slots)
+  instruction_in (Loads v) d names loads = land (suc frame.position) up (Value v ∷ []) refl frame.slots w here fr.entries (constant_plain library w.heap v (loads v refl), fr.slots)
   instruction_in (Jumps op to) d names loads = jump_in op to frame.slots d refl whole
-  instruction_in (Unwinds to byte) d names loads = unwinds_in library facts F A frame frames w sound (own library w.heap frame fr) fs to (nat_le 128 byte) (byte % 128) frame.entries frame.slots s.stack s.shows (act (Unwind to (byte % 128) (nat_le 128 byte)) true d) fr.slots fr.entries
+  instruction_in (Unwinds to byte) d names loads = unwinds_in library facts F A frame frames w sound (own library w.heap frame fr) fs to (nat_le 128 byte) (byte % 128) frame.entries frame.slots s.stack s.shows (act (Unwind to (byte % 128) (nat_le 128 byte)) true d) fr.slots fr.entries (unwind_held to (byte % 128) (nat_le 128 byte) d)
