@@ -16,6 +16,7 @@ pub mod PartSeen
 pub mod Regions
 pub mod Rooms
 pub mod Seen
+pub mod Shells
 pub mod Sounds
 pub mod TupleSeen
 pub mod Views

@@ -9,7 +9,9 @@ use Rattle.arena_heap.specs.declared.value.ObjectNo.{ObjectNo}
 use Rattle.arena_heap.specs.declared.value.ObjectNo.TheVariants as numbers
 use Rattle.arena_heap.specs.declared.cells.Cell.{Cell}
 use Rattle.arena_heap.specs.declared.cells.Cell.TheVariants as cells
-use Rattle.qstr_pool.specs.mpy_base.World.{ListObject, TupleObject, TextObject, DictObject, FunctionObject, ExceptionObject, MethodObject, RangeObject, ModuleObject, Heap, ObjectKind, AList, ATuple, AText, ADict, AFunction, AnException, AMethod, ARange, AModule}
+use Rattle.qstr_pool.specs.mpy_base.World.{ListObject, TupleObject, TextObject, DictObject, FunctionObject, ExceptionObject}
+use Rattle.qstr_pool.specs.mpy_base.World.{MethodObject, RangeObject, ModuleObject, Heap, ObjectKind, AList, ATuple, AText, ADict}
+use Rattle.qstr_pool.specs.mpy_base.World.{AFunction, AnException, AMethod, ARange, AModule}
 use Rattle.qstr_pool.specs.mpy_base.Weights.{IsRoom}
 use Rattle.arena_heap.specs.declared.cells.Region.{Region}
 use Rattle.arena_heap.specs.Values.{ArenaObject, Sound}

@@ -1,4 +1,5 @@
 pub use Rattle.qstr_pool.specs as qstr_pool
+pub mod Building
 pub mod Cells
 pub mod Constants
 pub mod Dicts

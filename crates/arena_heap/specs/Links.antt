@@ -1,5 +1,6 @@
 -- The buckets of a dict's pairs, and the links that lead through them.
-use Rattle.std.specs.Prelude.{ℕ, suc, max, Option, Some, None, nat_le, if◌then◌else◌, ◌+◌, ◌*◌, ◌/◌, ◌%◌, ◌^◌, ◌<◌, ◌≤◌, ◌≡◌, List, [], ◌∷◌, true, false, unsigned_abs, slice_index_or}
+use Rattle.std.specs.Prelude.{ℕ, suc, max, Option, Some, None, nat_le, if◌then◌else◌, ◌+◌, ◌*◌, ◌/◌, ◌%◌, ◌^◌, ◌<◌, ◌≤◌, ◌≡◌}
+use Rattle.std.specs.Prelude.{List, [], ◌∷◌, true, false, unsigned_abs, slice_index_or}
 use Rattle.arena_heap.specs.declared.value.Value.{Value}
 use Rattle.arena_heap.specs.declared.value.Value.TheVariants as values
 use Rattle.arena_heap.specs.declared.value.StrNo.TheVariants as strs

@@ -6,7 +6,9 @@ use Rattle.arena_heap.specs.declared.value.Value.{Value}
 use Rattle.arena_heap.specs.declared.value.Value.TheVariants as values
 use Rattle.arena_heap.specs.declared.value.ObjectNo.{ObjectNo}
 use Rattle.arena_heap.specs.declared.value.ObjectNo.TheVariants as numbers
-use Rattle.qstr_pool.specs.mpy_base.World.{Object, ListObject, TupleObject, TextObject, DictObject, FunctionObject, ExceptionObject, MethodObject, RangeObject, ModuleObject, Objects, ObjectKind, AList, ATuple, AText, ADict, AFunction, AnException, AMethod, ARange, AModule, object, IsA}
+use Rattle.qstr_pool.specs.mpy_base.World.{Object, ListObject, TupleObject, TextObject, DictObject, FunctionObject}
+use Rattle.qstr_pool.specs.mpy_base.World.{ExceptionObject, MethodObject, RangeObject, ModuleObject, Objects, ObjectKind, AList}
+use Rattle.qstr_pool.specs.mpy_base.World.{ATuple, AText, ADict, AFunction, AnException, AMethod, ARange, AModule, object, IsA}
 
 -- an object of an arena: it has these values, and names by number
 abbrev pub ArenaObject : Type 0

@@ -80,7 +80,9 @@ pub fn dict_named(arena: &Arena, d: DictNo, number: u32) -> Option<Option<u32>>
 /// they are strs. None where dicts aren't linked any more.
 pub fn dict_last(arena: &Arena, d: DictNo, key: Value) -> Option<u32>
     requires { IsA arena.now.objects ADict d.cell }
-    ensures { IfSome result (IsLast (buckets_at arena.now d.cell) (bucket_of (text_at arena.now) (room_at arena.now d.cell) key) (length (pairs_at arena.now d.cell))) }
+    ensures { IfSome result
+        (IsLast (buckets_at arena.now d.cell) (bucket_of (text_at arena.now) (room_at arena.now d.cell) key)
+        (length (pairs_at arena.now d.cell))) }
 {
     let region = dict_region(&arena.cells, d.cell);
     let bucket = bucket_of(&arena.cells, &arena.bytes, region.room, key);
@@ -160,7 +162,7 @@ pub(crate) fn reserve_dict(arena: &mut Arena, d: DictNo, pairs: u64) -> Result<(
 }
 
 /// Puts a pair behind the others of a dict that has room.
-pub(crate) fn put_in_dict(arena: &mut Arena, d: DictNo, key: Value, v: Value)
+pub fn put_in_dict(arena: &mut Arena, d: DictNo, key: Value, v: Value)
     requires dict { IsA arena.old.objects ADict d.cell }
     requires key { IsKey key }
     requires key_leads { Leads arena.old.objects key }

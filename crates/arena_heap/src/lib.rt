@@ -2,6 +2,7 @@
 #![tactic(auto)]
 
 mod arena;
+mod building;
 mod cells;
 mod constants;
 mod dicts;
@@ -16,10 +17,11 @@ mod tuples;
 mod value;
 
 pub use arena::Arena;
+pub use building::Shell;
 pub use constants::Constants;
 pub use dicts::{
     dict_at, dict_before, dict_last, dict_last_text, dict_len, dict_named, dict_push,
-    dict_remove_at, dict_room, dict_set_at,
+    dict_remove_at, dict_room, dict_set_at, put_in_dict,
 };
 pub use lists::{
     list_append, list_at, list_insert, list_len, list_pop, list_room, list_set, put_in_list,

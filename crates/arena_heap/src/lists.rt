@@ -1,6 +1,7 @@
 //! Calls on lists of an arena: length, items by place, growth. A list that outgrows its room moves behind all other cells.
 
-ghost use Rattle.std.specs.Prelude.{◌≡◌, ◌+◌, ◌<◌, ◌≤◌, ◌↔◌, length, ◌++◌, ◌∷◌, [], replicate, IfErr, OnOk, IsSome, IfSome, OnSome, IfNone, insert, slice_get, slice_set, vec_len};
+ghost use Rattle.std.specs.Prelude.{◌≡◌, ◌+◌, ◌<◌, ◌≤◌, ◌↔◌, length, ◌++◌, ◌∷◌, [], replicate, IfErr, OnOk, IsSome, IfSome};
+ghost use Rattle.std.specs.Prelude.{OnSome, IfNone, insert, slice_get, slice_set, vec_len};
 ghost use Rattle.std.specs.List.{remove};
 ghost use Rattle.std.specs.Vec.{vec_capacity};
 ghost use Rattle.qstr_pool.specs.mpy_base.World.{AList, IsA, Later, items_at, room_at, with_list};

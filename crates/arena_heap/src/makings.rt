@@ -2,7 +2,9 @@
 
 ghost use Rattle.std.specs.Prelude.{◌≡◌, ◌≢◌, ℕ, pos, suc, ◌+◌, ◌*◌, ◌<◌, ◌≤◌, length, [], ◌∷◌, ◌++◌, replicate, None, IfOk, IfErr, OnErr, vec_len};
 ghost use Rattle.std.specs.Vec.{vec_capacity};
-ghost use Rattle.qstr_pool.specs.mpy_base.World.{ListObject, TupleObject, TextObject, DictObject, FunctionObject, ExceptionObject, MethodObject, RangeObject, ModuleObject, AList, ATuple, AText, ADict, AFunction, AnException, AMethod, ARange, AModule, IsA, Later};
+ghost use Rattle.qstr_pool.specs.mpy_base.World.{ListObject, TupleObject, TextObject, DictObject, FunctionObject};
+ghost use Rattle.qstr_pool.specs.mpy_base.World.{ExceptionObject, MethodObject, RangeObject, ModuleObject, AList, ATuple, AText};
+ghost use Rattle.qstr_pool.specs.mpy_base.World.{ADict, AFunction, AnException, AMethod, ARange, AModule, IsA, Later};
 ghost use Rattle.qstr_pool.specs.mpy_base.Weights.{room_for, Fits, Made, Refused, no_room};
 ghost use Rattle.arena_heap.specs.Values.{Leads, IsSmall, IsTuple, IsDefaults, IsMethodOf};
 ghost use Rattle.arena_heap.specs.Cells.{blank};

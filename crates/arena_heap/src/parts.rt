@@ -1,7 +1,9 @@
 //! The parts of functions, exceptions, bound methods, ranges and modules.
 
 ghost use Rattle.std.specs.Prelude.{◌≡◌, ◌≢◌, ◌<◌, pos, None, Some, IfSome, MatchOption, option_map};
-ghost use Rattle.qstr_pool.specs.mpy_base.World.{FunctionObject, ExceptionObject, MethodObject, RangeObject, ModuleObject, ADict, AFunction, AnException, AMethod, ARange, AModule, IsA, Later, object, with_place, with_names};
+ghost use Rattle.qstr_pool.specs.mpy_base.World.{FunctionObject, ExceptionObject, MethodObject, RangeObject, ModuleObject, ADict};
+ghost use Rattle.qstr_pool.specs.mpy_base.World.{AFunction, AnException, AMethod, ARange, AModule, IsA, Later, object};
+ghost use Rattle.qstr_pool.specs.mpy_base.World.{with_place, with_names};
 ghost use Rattle.qstr_pool.specs.mpy_base.Weights.{used};
 ghost use Rattle.arena_heap.specs.Values.{BeginsAt, Leads, IsSmall, IsTuple, IsDefaults, IsMethodOf};
 

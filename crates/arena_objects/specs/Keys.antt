@@ -51,7 +51,8 @@ pub record KeepsOthers (texts : StrNo → Option (List ℕ)) (old new : Heap Val
 
 -- no two pairs have equal keys
 pub record IsDistinct (texts : StrNo → Option (List ℕ)) (heap : Heap Value ℕ) (d : ℕ) : Type 0 where
-  pub once : (i j : ℕ) → i < j → j < length (pairs_at heap d) → key_of texts heap (key_in (pairs_at heap d) i) ≡ key_of texts heap (key_in (pairs_at heap d) j) → ⊥
+  pub once : (i j : ℕ) → i < j → j < length (pairs_at heap d)
+      → key_of texts heap (key_in (pairs_at heap d) i) ≡ key_of texts heap (key_in (pairs_at heap d) j) → ⊥
 
 -- the texts and tuples are told that the objects hold
 pub record AllTold (texts : StrNo → Option (List ℕ)) (tuples : ConstNo → Option (List Value)) (objects : Objects Value ℕ) : Type 0 where

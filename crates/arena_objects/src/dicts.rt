@@ -48,9 +48,12 @@ pub fn dict_set<C: Constants>(
     requires key_told { IsTold (C.text_of consts.now) (C.items_of consts.now) key }
     requires told { IsTold (C.text_of consts.now) (C.items_of consts.now) v }
     requires all_told { AllTold (C.text_of consts.now) (C.items_of consts.now) arena.old.objects }
-    ensures set { (at : ℕ) → StandsAt (C.text_of consts.now) arena.old d.cell key at → arena.new ≡ with_dict arena.old d.cell (with_value (pairs_at arena.old d.cell) at v) }
-    ensures added { OnOk result (Lacks (C.text_of consts.now) arena.old d.cell key → arena.new ≡ with_pairs arena.old d.cell (pairs_at arena.old d.cell ++ (key, v) ∷ [])) }
-    ensures fits { OnOk result (Lacks (C.text_of consts.now) arena.old d.cell key → Fits arena.old (dict_growth arena.old d.cell (length (pairs_at arena.old d.cell) + 1)) 0) }
+    ensures set { (at : ℕ) → StandsAt (C.text_of consts.now) arena.old d.cell key at
+        → arena.new ≡ with_dict arena.old d.cell (with_value (pairs_at arena.old d.cell) at v) }
+    ensures added { OnOk result (Lacks (C.text_of consts.now) arena.old d.cell key
+        → arena.new ≡ with_pairs arena.old d.cell (pairs_at arena.old d.cell ++ (key, v) ∷ [])) }
+    ensures fits { OnOk result (Lacks (C.text_of consts.now) arena.old d.cell key
+        → Fits arena.old (dict_growth arena.old d.cell (length (pairs_at arena.old d.cell) + 1)) 0) }
     ensures value { OnOk result (IsValueOf (C.text_of consts.now) arena.new d.cell key v) }
     ensures others { KeepsOthers (C.text_of consts.now) arena.old arena.new d.cell key }
     ensures distinct { IsDistinct (C.text_of consts.now) arena.old d.cell → IsDistinct (C.text_of consts.now) arena.new d.cell }
@@ -82,7 +85,8 @@ pub fn dict_delete<C: Constants>(
     requires all_told { AllTold (C.text_of consts.now) (C.items_of consts.now) arena.old.objects }
     ensures found { IfSome result (IsValueOf (C.text_of consts.now) arena.old d.cell key) }
     ensures none { IfNone result (Lacks (C.text_of consts.now) arena.old d.cell key) }
-    ensures deleted { (at : ℕ) → StandsAt (C.text_of consts.now) arena.old d.cell key at → arena.new ≡ with_dict arena.old d.cell (remove (pairs_at arena.old d.cell) at) }
+    ensures deleted { (at : ℕ) → StandsAt (C.text_of consts.now) arena.old d.cell key at
+        → arena.new ≡ with_dict arena.old d.cell (remove (pairs_at arena.old d.cell) at) }
     ensures others { KeepsOthers (C.text_of consts.now) arena.old arena.new d.cell key }
     ensures gone { IsDistinct (C.text_of consts.now) arena.old d.cell → Lacks (C.text_of consts.now) arena.new d.cell key }
     ensures distinct { IsDistinct (C.text_of consts.now) arena.old d.cell → IsDistinct (C.text_of consts.now) arena.new d.cell }

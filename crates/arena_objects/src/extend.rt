@@ -108,7 +108,9 @@ pub fn make_texts<C: Constants>(arena: &mut Arena, consts: &C, from: Value) -> R
     requires told { IsTold (C.text_of consts.now) (C.items_of consts.now) from }
     requires fits { Fits arena.old 0 0 }
     ensures ok { OnOk result (arena.new ≡ with_texts arena.old (spelled (C.text_of consts.now) arena.old from)) }
-    ensures fits { OnOk result (Fits arena.old (2 * length (spelled (C.text_of consts.now) arena.old from)) (length (spelled (C.text_of consts.now) arena.old from))) }
+    ensures fits { OnOk result
+        (Fits arena.old (2 * length (spelled (C.text_of consts.now) arena.old from))
+        (length (spelled (C.text_of consts.now) arena.old from))) }
     ensures refused { IfErr result (λ e. TextRefused arena.old arena.new e (spelled (C.text_of consts.now) arena.old from)) }
 {
     let count = spelled_bytes(arena, consts, from).len();
@@ -149,7 +151,10 @@ pub fn list_extend<C: Constants>(
     requires told { IsTold (C.text_of consts.now) (C.items_of consts.now) from }
     requires all_told { AllTold (C.text_of consts.now) (C.items_of consts.now) arena.old.objects }
     ensures ok { OnOk result (arena.new ≡ extended (C.text_of consts.now) (C.items_of consts.now) arena.old l.cell from) }
-    ensures fits { OnOk result (Fits arena.old (list_growth arena.old l.cell (extended_length (C.text_of consts.now) (C.items_of consts.now) arena.old l.cell from) + 2 * length (spelled (C.text_of consts.now) arena.old from)) (length (spelled (C.text_of consts.now) arena.old from))) }
+    ensures fits { OnOk result
+        (Fits arena.old (list_growth arena.old l.cell
+        (extended_length (C.text_of consts.now) (C.items_of consts.now) arena.old l.cell from) + 2 * length
+        (spelled (C.text_of consts.now) arena.old from)) (length (spelled (C.text_of consts.now) arena.old from))) }
     ensures refused { IfErr result (λ e. NotExtended (C.text_of consts.now) (C.items_of consts.now) arena.old arena.new e l.cell from) }
     ensures kept { OnErr result (items_at arena.new l.cell ≡ items_at arena.old l.cell) }
     ensures later { Later arena.old.objects arena.new.objects }

@@ -123,7 +123,9 @@ fn in_bucket<C: Constants>(
     requires dict { IsA arena.now.objects ADict d.cell }
     requires all_told { AllTold (C.text_of consts.now) (C.items_of consts.now) arena.now.objects }
     requires sought { key_of (C.text_of consts.now) arena.now key ≡ Some (plain sought) }
-    ensures { IfSome result (FirstFrom (HasKeyIn (C.text_of consts.now) arena.now d.cell (plain sought.entry) (bucket_of (text_at arena.now) (room_at arena.now d.cell) other)) (length (pairs_at arena.now d.cell)) 0) }
+    ensures { IfSome result
+        (FirstFrom (HasKeyIn (C.text_of consts.now) arena.now d.cell (plain sought.entry)
+        (bucket_of (text_at arena.now) (room_at arena.now d.cell) other)) (length (pairs_at arena.now d.cell)) 0) }
 {
     let last = dict_last(arena, d, other)?;
     in_chain(arena, consts, d, key, sought, last)
@@ -141,7 +143,9 @@ fn in_text_bucket<C: Constants>(
     requires dict { IsA arena.now.objects ADict d.cell }
     requires all_told { AllTold (C.text_of consts.now) (C.items_of consts.now) arena.now.objects }
     requires sought { key_of (C.text_of consts.now) arena.now key ≡ Some (plain sought) }
-    ensures { IfSome result (FirstFrom (HasKeyIn (C.text_of consts.now) arena.now d.cell (plain sought.entry) (text_code bytes.now % room_at arena.now d.cell)) (length (pairs_at arena.now d.cell)) 0) }
+    ensures { IfSome result
+        (FirstFrom (HasKeyIn (C.text_of consts.now) arena.now d.cell (plain sought.entry) (text_code bytes.now % room_at arena.now d.cell))
+        (length (pairs_at arena.now d.cell)) 0) }
 {
     let last = dict_last_text(arena, d, bytes)?;
     in_chain(arena, consts, d, key, sought, last)
@@ -159,7 +163,9 @@ fn in_named_bucket<C: Constants>(
     requires dict { IsA arena.now.objects ADict d.cell }
     requires all_told { AllTold (C.text_of consts.now) (C.items_of consts.now) arena.now.objects }
     requires sought { key_of (C.text_of consts.now) arena.now key ≡ Some (plain sought) }
-    ensures { IfSome result (FirstFrom (HasKeyNamed (C.text_of consts.now) arena.now d.cell (plain sought.entry) number) (length (pairs_at arena.now d.cell)) 0) }
+    ensures { IfSome result
+        (FirstFrom (HasKeyNamed (C.text_of consts.now) arena.now d.cell (plain sought.entry) number)
+        (length (pairs_at arena.now d.cell)) 0) }
 {
     match number {
         Some(n) => in_bucket(arena, consts, d, key, sought, Value::Str(StrNo::Pool(n))),

@@ -5,15 +5,15 @@ use Rattle.std.proofs.KnownBytes.{Appends-kept}
 use Rattle.mpy_base.specs.declared.limits.TheConstants.{MAX_TASKS}
 use Rattle.mpy_io.specs.Files.{FileOf}
 use Rattle.meant_files.specs.image_open.bc_library.Shelf.{Shelf}
-use Rattle.board_meaning.specs.vm_starting.vm_states.Means.{Program}
-use Rattle.board_meaning.specs.vm_starting.Programs.{IsProgramOf}
+use Rattle.board_files.specs.vm_starting.vm_states.Means.{Program}
+use Rattle.board_files.specs.vm_starting.Programs.{IsProgramOf}
 use Rattle.board_plan.specs.declared.plan.Plan.{Plan}
-use Rattle.board_meaning.specs.board_tasks.Opened.{first_missing}
-use Rattle.board_meaning.specs.board_files.declared.stop.BoardStop.{BoardStop}
-use Rattle.board_meaning.specs.board_files.declared.stop.BoardStop.TheVariants as stops
-use Rattle.board_meaning.specs.board_files.Files.{KeepsOthers}
-use Rattle.board_meaning.specs.board_files.Stopped.{HasStoppedIn}
-use Rattle.board_meaning.specs.board_files.Summaries.{HasRunIn, HasRunFrontIn}
+use Rattle.board_files.specs.board_tasks.Opened.{first_missing}
+use Rattle.board_files.specs.declared.stop.BoardStop.{BoardStop}
+use Rattle.board_files.specs.declared.stop.BoardStop.TheVariants as stops
+use Rattle.board_files.specs.Files.{KeepsOthers}
+use Rattle.board_files.specs.Stopped.{HasStoppedIn}
+use Rattle.board_files.specs.Summaries.{HasRunIn, HasRunFrontIn}
 use Rattle.command_files.specs.mpy_endings.declared.ending.Ending.{Ending}
 use Rattle.command_files.specs.mpy_endings.declared.ending.Ending.TheVariants.{Done, Unaccepted, Unread, Unverified, Unmerged, Unopened, Unfrozen, Unboarded, Different, Stopped, ReadFault, WriteFault, Unwritten, NoMemory, Absent}
 use Rattle.command_files.specs.mpy_endings.declared.ending.BoardFault.TheVariants as boards

@@ -7,15 +7,15 @@ use Rattle.meant_files.specs.image_open.bc_library.declared.fault.Member.{Member
 use Rattle.meant_files.specs.image_open.bc_library.declared.fault.Member.TheVariants as members
 use Rattle.meant_files.specs.image_open.bc_library.Shelf.{Shelf, member_of}
 use Rattle.meant_files.specs.py_meaning.Program.{Program}
-use Rattle.board_meaning.specs.vm_starting.vm_states.Means as machine
-use Rattle.board_meaning.specs.vm_starting.Programs.{IsProgramOf as IsOfShelf, IsRunnable}
+use Rattle.board_files.specs.vm_starting.vm_states.Means as machine
+use Rattle.board_files.specs.vm_starting.Programs.{IsProgramOf as IsOfShelf, IsRunnable}
 use Rattle.meant_files.specs.meant_runs.Units.{AreUnits}
 use Rattle.meant_files.specs.image_open.Opens.{Opens}
 use Rattle.board_plan.specs.declared.plan.Plan.{Plan}
 use Rattle.board_plan.specs.declared.plan.Task.{Task}
-use Rattle.board_meaning.specs.board_tasks.Opened.{first_missing, missing_by, number_by, number_of}
-use Rattle.board_meaning.specs.board_files.Summaries.{HasRun}
-use Rattle.board_meaning.specs.Meant.{RanAsMeant}
+use Rattle.board_files.specs.board_tasks.Opened.{first_missing, missing_by, number_by, number_of}
+use Rattle.board_files.specs.Summaries.{HasRun}
+use Rattle.board_command.specs.TaskRuns.{RanAsMeant}
 use Rattle.meant_files.specs.Programs.{HoldsImageOf, IsLibraryOf, IsProgramOf, Sources}
 use Rattle.command_files.specs.mpy_endings.declared.ending.Ending.TheVariants.{Done}
 use Rattle.board_command.specs.Boards.{Boards}

@@ -1,7 +1,7 @@
 -- How the command ends whose plan was run, or wasn't.
 use Rattle.std.specs.Prelude.{Result, Ok, Err}
-use Rattle.board_meaning.specs.board_files.declared.stop.BoardStop.{BoardStop}
-use Rattle.board_meaning.specs.board_files.declared.stop.BoardStop.TheVariants as stops
+use Rattle.board_files.specs.declared.stop.BoardStop.{BoardStop}
+use Rattle.board_files.specs.declared.stop.BoardStop.TheVariants as stops
 use Rattle.command_files.specs.mpy_endings.declared.ending.Ending.{Ending}
 use Rattle.command_files.specs.mpy_endings.declared.ending.Ending.TheVariants.{Done, Unboarded, WriteFault, NoMemory}
 use Rattle.command_files.specs.mpy_endings.declared.ending.BoardFault.TheVariants as boards

@@ -6,7 +6,7 @@ use Rattle.mpy_io.specs.Files.{FileOf}
 use Rattle.meant_files.specs.py_meaning.Program.{Program}
 use Rattle.board_plan.specs.declared.plan.Plan.{Plan}
 use Rattle.board_plan.specs.declared.plan.Task.{Task}
-use Rattle.board_meaning.specs.Meant.{RanAsMeant}
+use Rattle.board_command.specs.TaskRuns.{RanAsMeant}
 
 -- For each task there is a program of the sources, whose main unit is the task's module. The task ran as this means: its output is in
 -- its file, and its line of the summary that was printed says its end and its room.

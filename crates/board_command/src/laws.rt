@@ -10,7 +10,8 @@ ghost use Rattle.board_command.specs.Boards.{Boards};
 ghost use Rattle.board_command.specs.Meant.{MeansTasks};
 ghost use Rattle.board_command.specs.Plans.{HoldsPlan};
 
-use board_meaning::{program_law, tasks_law};
+use crate::tasks::tasks_law;
+use board_files::program_law;
 use meant_files::images_law;
 
 /// Where the image of the name `image` is that of a manifest's sources, over a library of images of manifests' sources, each task of a

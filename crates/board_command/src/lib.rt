@@ -4,6 +4,7 @@
 mod laws;
 mod plan;
 mod running;
+mod tasks;
 
 pub use command_files::open_base;
 pub use laws::board_means_law;

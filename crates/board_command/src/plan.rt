@@ -2,7 +2,7 @@
 
 ghost use Rattle.std.specs.Prelude.{◌≡◌, IfErr, IfOk};
 ghost use Rattle.mpy_io.specs.Count.{Counts};
-ghost use Rattle.board_meaning.specs.board_files.Summaries.{CanRun};
+ghost use Rattle.board_files.specs.Summaries.{CanRun};
 ghost use Rattle.command_files.specs.Opened.{failed_in};
 ghost use Rattle.board_command.specs.Plans.{HoldsPlan, RefusesPlan};
 

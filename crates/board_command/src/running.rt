@@ -4,7 +4,7 @@ ghost use Rattle.std.specs.Prelude.{◌≡◌, []};
 ghost use Rattle.mpy_base.specs.declared.limits.TheConstants.{MAX_TASKS};
 ghost use Rattle.mpy_io.specs.Count.{Counts};
 ghost use Rattle.meant_files.specs.image_open.image_grammar.Base.{IsOpened};
-ghost use Rattle.board_meaning.specs.board_files.Files.{KeepsOthers};
+ghost use Rattle.board_files.specs.Files.{KeepsOthers};
 ghost use Rattle.command_files.specs.mpy_endings.declared.ending.Ending.TheVariants.{Done};
 ghost use Rattle.command_files.specs.mpy_endings.Ending.{is_folder_fault, is_out_fault};
 ghost use Rattle.board_command.specs.Boards.{Boards};
@@ -12,7 +12,7 @@ ghost use Rattle.board_command.specs.Ends as spec;
 
 use crate::plan::planned;
 use bc_library::{Library, modules_law};
-use board_meaning::{BoardStop, run_board};
+use board_files::{BoardStop, run_board};
 use command_files::{BoardFault, Ended, Ending, open_image_file};
 use mpy_io::{Folder, Sink};
 use std::alloc::Global;

@@ -5,3 +5,5 @@ pub mod Crossed
 pub mod Merged
 pub mod HandedOn
 mod Crossings
+pub mod Freezing
+pub mod Migrating

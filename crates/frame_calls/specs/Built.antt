@@ -26,7 +26,9 @@ use Rattle.frame_moves.specs.Outcomes.{world_of, outcome_of}
 use Rattle.frame_calls.specs.Coming.{Comes}
 use Rattle.frame_calls.specs.Putting.{with_value, done_of, IsKnownStop}
 
-module _ {S : Type 0} (told : S → Option (List ℕ)) (count : S → ℕ) (tables : Tables) (library : Library) (item : Item) (size end : ℕ) (b : Builtin) (args : List Value) (keys : List (Value × Value)) (before behind : Seen S) (old new : List Call) (w : PlainWorld) where
+module _ {S : Type 0} (told : S → Option (List ℕ)) (count : S
+    → ℕ) (tables : Tables) (library : Library) (item : Item) (size end : ℕ) (b : Builtin) (args : List Value) (keys : List (Value
+    × Value)) (before behind : Seen S) (old new : List Call) (w : PlainWorld) where
   -- the world that the call begins in
   abbrev pub begins_in : PlainWorld
   begins_in = world_of tables w before.heap
@@ -50,12 +52,15 @@ module _ {S : Type 0} (told : S → Option (List ℕ)) (count : S → ℕ) (tabl
     pub puts : Puts told count before.out behind.out true text
     pub heap : behind.heap ≡ before.heap
     pub ports : behind.ports ≡ before.ports
-    pub comes : Comes tables library item visits_of begins_in old (λ place. running_of tables 0 (change_first (with_value end size values.None) old) (record begins_in { output = w.output ++ text }))
+    pub comes : Comes tables library item visits_of begins_in old
+        (λ place. running_of tables 0 (change_first (with_value end size values.None) old) (record begins_in { output = w.output ++ text }))
 
   -- a port fails only where that of the world does
   abbrev pub FailsAlike : Stop → Type 0
   FailsAlike stop =
-      stop ≡ stops.Raises faults.PortFailed → (call_builtin begins_in b (map (value_of tables) args) (map (plain_pair tables.texts tables.tuples) keys)).answer ≡ Err (Raises plain.PortFailed)
+      stop ≡ stops.Raises faults.PortFailed
+      → (call_builtin begins_in b (map (value_of tables) args) (map (plain_pair tables.texts tables.tuples) keys)).answer
+      ≡ Err (Raises plain.PortFailed)
 
   -- what it comes to, where the ports told theirs before a call of ports
   abbrev pub ActsBuilt : Result (Unit {0}) CallStop → Type 0
@@ -64,7 +69,9 @@ module _ {S : Type 0} (told : S → Option (List ℕ)) (count : S → ℕ) (tabl
   ActsBuilt (Err (calls.Out failed)) = Fails
 
 -- some call of it gives this, and does so to the arena, the output and the ports
-pub record IsCalled {S : Type 0} (told : S → Option (List ℕ)) (count : S → ℕ) (texts : StrNo → Option (List ℕ)) (tuples : ConstNo → Option (List Value)) (before behind : Seen S) (args : List Value) (keys : List (Value × Value)) (b : Builtin) (result : Result (Unit {0}) CallStop) : Type 0 where
+pub record IsCalled {S : Type 0} (told : S → Option (List ℕ)) (count : S → ℕ) (texts : StrNo → Option (List ℕ)) (tuples : ConstNo
+    → Option (List Value)) (before behind : Seen S) (args : List Value) (keys : List (Value
+    × Value)) (b : Builtin) (result : Result (Unit {0}) CallStop) : Type 0 where
   pub given : Result Value CallStop
   pub done : result ≡ done_of given
   pub call : IsCall told count texts tuples before behind args keys given b

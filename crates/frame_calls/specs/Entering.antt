@@ -1,5 +1,6 @@
 -- Functions of the program that are entered.
-use Rattle.std.specs.Prelude.{◌≡◌, ℕ, ◌-◌, ◌<◌, List, [], ◌∷◌, ◌++◌, length, map, drop, replicate, Bool, true, false, Option, Some, None, Result, Ok, Err, IfSome, All}
+use Rattle.std.specs.Prelude.{◌≡◌, ℕ, ◌-◌, ◌<◌, List, [], ◌∷◌, ◌++◌, length, map, drop, replicate, Bool, true, false, Option}
+use Rattle.std.specs.Prelude.{Some, None, Result, Ok, Err, IfSome, All}
 use Rattle.mpy_base.specs.World.{Objects}
 use Rattle.frame_moves.specs.arena_heap.declared.value.Value.{Value}
 use Rattle.frame_moves.specs.arena_heap.declared.value.StrNo.{StrNo}

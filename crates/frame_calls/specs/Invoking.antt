@@ -50,10 +50,12 @@ module _ (tables : Tables) where
   calling_of library place paid size [] w callee args keys = Stuck w
   calling_of library place paid size (c ∷ cs) w callee args keys =
       run_callee library place paid (frame_of (view_of tables) c) (map (frame_of (view_of tables)) cs) w
-      (slots_of (view_of tables) (starts_of (view_of tables) c) (drop size c.slots)) callee (map (value_of tables) args) (map (plain_pair tables.texts tables.tuples) keys)
+      (slots_of (view_of tables) (starts_of (view_of tables) c) (drop size c.slots)) callee (map (value_of tables) args)
+      (map (plain_pair tables.texts tables.tuples) keys)
 
   -- the instruction calls this callee with these arguments, in each library, at each place, in each world, and whatever is paid
-  pub record Invokes (item : Item) (size : ℕ) (heap : Heap Value ℕ) (calls : List Call) (args : List Value) (keys : List (Value × Value)) (callee : Callee) : Type 0 where
+  pub record Invokes (item : Item) (size : ℕ) (heap : Heap Value ℕ) (calls : List Call) (args : List Value) (keys : List (Value
+      × Value)) (callee : Callee) : Type 0 where
     pub calls_it : (library : Library) (place : Place) (paid : ℕ) (w : PlainWorld)
         → step_of tables library place paid calls (world_of tables w heap) item
         ≡ calling_of library place paid size calls (world_of tables w heap) (plain_callee tables.texts tables.tuples (world_of tables w heap) callee) args keys

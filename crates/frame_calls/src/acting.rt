@@ -51,7 +51,12 @@ pub fn act_method<C: Constants>(
     requires few { length operands.now.args < 2 ^ 32 }
     requires known { under C.Constants consts.now AreKnown arena.old.objects operands.now }
     requires all_told { TellsAll C.Constants consts.now arena.old }
-    ensures steps { let see = sight C.Constants consts.now in (layout : Layout) (item : Instruction) → Invokes (tables_of see.texts see.tuples layout) item size arena.old frames.old.calls operands.now.args operands.now.keys (callees.Method object method) → IsNext (tables_of see.texts see.tuples layout) end frames.old.calls → Does (tables_of see.texts see.tuples layout) item (call_method_in (see.heap arena.old) method (see.value object) (map see.value operands.now.args) (map see.pair operands.now.keys)).visits arena.old arena.new frames.old.calls frames.new.calls result }
+    ensures steps { let see = sight C.Constants consts.now in (layout : Layout) (item : Instruction)
+        → Invokes (tables_of see.texts see.tuples layout) item size arena.old frames.old.calls operands.now.args operands.now.keys
+        (callees.Method object method) → IsNext (tables_of see.texts see.tuples layout) end frames.old.calls
+        → Does (tables_of see.texts see.tuples layout) item
+        (call_method_in (see.heap arena.old) method (see.value object) (map see.value operands.now.args)
+        (map see.pair operands.now.keys)).visits arena.old arena.new frames.old.calls frames.new.calls result }
     ensures moved { Puts (C.text_of consts.now) (C.items_of consts.now) arena.new.objects end size frames.old frames.new result }
     ensures leaves { under C.Constants consts.now Leaves arena.old arena.new result }
 {
@@ -63,10 +68,13 @@ pub fn act_method<C: Constants>(
 
 /// A value of a type that isn't callable is called: whatever the calls, the heap and the operands are.
 pub fn refuse_call(value_type: ValueType) -> Stop
-    ensures steps { (texts : TextName → Option (List ℕ)) (tuples : TupleName → Option (List Item)) (layout : Layout) (item : Instruction) (size : ℕ) (heap : Heap Item ℕ) (calls : List Call) (args : List Item) (keys : List (Item × Item))
+    ensures steps { (texts : TextName → Option (List ℕ)) (tuples : TupleName
+        → Option (List Item)) (layout : Layout) (item : Instruction) (size : ℕ) (heap : Heap Item ℕ) (calls : List Call) (args : List Item)
+        (keys : List (Item × Item))
         → 0 < length calls → Invokes (tables_of texts tuples layout) item size heap calls args keys (callees.NotCallable value_type)
         → Does (tables_of texts tuples layout) item 0 heap heap calls calls (Err result) }
-    ensures known { (texts : TextName → Option (List ℕ)) (tuples : TupleName → Option (List Item)) (objects : Objects Item ℕ) → IsKnownStop texts tuples objects (Err result) }
+    ensures known { (texts : TextName → Option (List ℕ)) (tuples : TupleName → Option (List Item)) (objects : Objects Item ℕ)
+        → IsKnownStop texts tuples objects (Err result) }
 {
     Stop::Raises(Fault::NotCallable(value_type))
 }
@@ -109,8 +117,29 @@ pub fn act_builtin<C: Constants, S: Sink, P: Port>(
     requires few { length operands.now.args < 2 ^ 32 }
     requires known { under C.Constants consts.now AreKnown arena.old.objects operands.now }
     requires all_told { TellsAll C.Constants consts.now arena.old }
-    ensures acts { (layout : Layout) (library : Library) (item : Instruction) (w : PlainWorld) → Invokes (under C.Constants consts.now tables_of layout) item size arena.old frames.old.calls operands.now.args operands.now.keys (callees.Built b) → IsNext (under C.Constants consts.now tables_of layout) end frames.old.calls → (IsOfPorts b → Tell (map P.seen ports.old) w.ports) → ActsBuilt S.told S.count (under C.Constants consts.now tables_of layout) library item size end b operands.now.args operands.now.keys (record { heap = arena.old; out = out.old; ports = map P.seen ports.old }) (record { heap = arena.new; out = out.new; ports = map P.seen ports.new }) frames.old.calls frames.new.calls w result }
-    ensures called { IsCalled S.told S.count (C.text_of consts.now) (C.items_of consts.now) (record { heap = arena.old; out = out.old; ports = map P.seen ports.old }) (record { heap = arena.new; out = out.new; ports = map P.seen ports.new }) operands.now.args operands.now.keys b result }
+    ensures acts { (layout : Layout) (library : Library) (item : Instruction) (w : PlainWorld)
+        → Invokes (under C.Constants consts.now tables_of layout) item size arena.old frames.old.calls operands.now.args operands.now.keys
+        (callees.Built b) → IsNext (under C.Constants consts.now tables_of layout) end frames.old.calls
+        → (IsOfPorts b → Tell (map P.seen ports.old) w.ports)
+        → ActsBuilt S.told S.count
+        (under C.Constants consts.now tables_of layout) library item size end b operands.now.args operands.now.keys (record {
+          heap = arena.old;
+          out = out.old;
+          ports = map P.seen ports.old;
+        }) (record {
+          heap = arena.new;
+          out = out.new;
+          ports = map P.seen ports.new;
+        }) frames.old.calls frames.new.calls w result }
+    ensures called { IsCalled S.told S.count (C.text_of consts.now) (C.items_of consts.now) (record {
+      heap = arena.old;
+      out = out.old;
+      ports = map P.seen ports.old;
+    }) (record {
+      heap = arena.new;
+      out = out.new;
+      ports = map P.seen ports.new;
+    }) operands.now.args operands.now.keys b result }
     ensures moved { Puts (C.text_of consts.now) (C.items_of consts.now) arena.new.objects end size frames.old frames.new result }
     ensures known { under C.Constants consts.now IsKnownCallStop arena.new.objects result }
     ensures later { Later arena.old.objects arena.new.objects }

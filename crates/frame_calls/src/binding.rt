@@ -101,7 +101,10 @@ impl Bindings {
         requires defaults { Knows C.Constants consts.now arena.now defaults }
         requires known { under C.Constants consts.now AreKnown arena.now.objects operands.now }
         requires all_told { TellsAll C.Constants consts.now arena.now }
-        ensures bound { let see = sight C.Constants consts.now in IsBound see.texts see.tuples arena.now self.new.values result (λ w. bind_in w (map (name_text see.texts) (map (λ n. strs.Pool n) code.now.params.now)) code.now.given (see.value defaults) (map see.value operands.now.args) (map see.pair operands.now.keys)) }
+        ensures bound { let see = sight C.Constants consts.now
+            in IsBound see.texts see.tuples arena.now self.new.values result
+            (λ w. bind_in w (map (name_text see.texts) (map (λ n. strs.Pool n) code.now.params.now)) code.now.given (see.value defaults)
+            (map see.value operands.now.args) (map see.pair operands.now.keys)) }
         ensures known { under C.Constants consts.now IsKnownBound arena.now.objects self.new.values result }
         ensures count { length self.new.values ≡ length code.now.params.now }
         ensures room { self.new.room ≡ self.old.room }

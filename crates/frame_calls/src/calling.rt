@@ -51,7 +51,10 @@ pub fn call_function<C: Constants>(
     requires callee { (v : Item) × (slice_get (running_slots frames.now.calls) (operands_of number) ≡ Some (slots.Value v)) }
     requires known { All (under C.Constants consts.now IsKnownSlot arena.now.objects) (running_slots frames.now.calls) }
     requires all_told { TellsAll C.Constants consts.now arena.now }
-    ensures invokes { (layout : Layout) → Invokes (under C.Constants consts.now tables_of layout) (Plain (instrs.Num ops.CallFunction number)) result.size arena.now frames.now.calls (args_in number (running_slots frames.now.calls)) (keys_in number (running_slots frames.now.calls)) result.callee }
+    ensures invokes { (layout : Layout)
+        → Invokes (under C.Constants consts.now tables_of layout)
+        (Plain (instrs.Num ops.CallFunction number)) result.size arena.now frames.now.calls
+        (args_in number (running_slots frames.now.calls)) (keys_in number (running_slots frames.now.calls)) result.callee }
     ensures known { under C.Constants consts.now IsKnownCallee arena.now.objects result.callee }
     ensures size { result.size ≡ suc (operands_of number) }
     ensures there { result.size ≤ length (running_slots frames.now.calls) }
@@ -71,7 +74,13 @@ fn looked_callee<C: Constants>(arena: &Arena, consts: &C, upper: Slot, lower: Sl
     requires known_upper { under C.Constants consts.now IsKnownSlot arena.now.objects upper }
     requires known_lower { under C.Constants consts.now IsKnownSlot arena.now.objects lower }
     requires all_told { TellsAll C.Constants consts.now arena.now }
-    ensures called { (layout : Layout) (library : Library) (place : Place) (paid : ℕ) (frame : states.Frame) (frames : List states.Frame) (w : PlainWorld) (starts : List ℕ) (o : MachineOperands) (below : List states.Slot) → call_looked library place paid frame frames (under C.Constants consts.now world_over w arena.now) o (slot_of (view_of (under C.Constants consts.now tables_of layout)) starts upper ∷ slot_of (view_of (under C.Constants consts.now tables_of layout)) starts lower ∷ below) ≡ run_callee library place paid frame frames (under C.Constants consts.now world_over w arena.now) below (under C.Constants consts.now plain_callee (under C.Constants consts.now world_over w arena.now) result) o.args o.keys }
+    ensures called { (layout : Layout) (library : Library) (place : Place) (paid : ℕ) (frame : states.Frame) (frames : List states.Frame)
+        (w : PlainWorld) (starts : List ℕ) (o : MachineOperands) (below : List states.Slot)
+        → call_looked library place paid frame frames (under C.Constants consts.now world_over w arena.now) o
+        (slot_of (view_of (under C.Constants consts.now tables_of layout)) starts upper
+        ∷ slot_of (view_of (under C.Constants consts.now tables_of layout)) starts lower ∷ below)
+        ≡ run_callee library place paid frame frames (under C.Constants consts.now world_over w arena.now) below
+        (under C.Constants consts.now plain_callee (under C.Constants consts.now world_over w arena.now) result) o.args o.keys }
     ensures known { under C.Constants consts.now IsKnownCallee arena.now.objects result }
 {
     let callee = value_of(lower);
@@ -99,7 +108,10 @@ pub fn call_method<C: Constants>(
     requires looked { HasLooked (operands_of number) (running_slots frames.now.calls) }
     requires known { All (under C.Constants consts.now IsKnownSlot arena.now.objects) (running_slots frames.now.calls) }
     requires all_told { TellsAll C.Constants consts.now arena.now }
-    ensures invokes { (layout : Layout) → Invokes (under C.Constants consts.now tables_of layout) (Plain (instrs.Num ops.CallMethod number)) result.size arena.now frames.now.calls (args_in number (running_slots frames.now.calls)) (keys_in number (running_slots frames.now.calls)) result.callee }
+    ensures invokes { (layout : Layout)
+        → Invokes (under C.Constants consts.now tables_of layout)
+        (Plain (instrs.Num ops.CallMethod number)) result.size arena.now frames.now.calls (args_in number (running_slots frames.now.calls))
+        (keys_in number (running_slots frames.now.calls)) result.callee }
     ensures known { under C.Constants consts.now IsKnownCallee arena.now.objects result.callee }
     ensures size { result.size ≡ suc (suc (operands_of number)) }
     ensures there { result.size ≤ length (running_slots frames.now.calls) }

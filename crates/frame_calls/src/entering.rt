@@ -125,9 +125,15 @@ pub fn run_function<C: Constants>(
     requires function { under C.Constants consts.now IsKnownFunction arena.now.objects function }
     requires known { under C.Constants consts.now AreKnown arena.now.objects operands.now }
     requires all_told { TellsAll C.Constants consts.now arena.now }
-    ensures steps { (layout : Layout) (library : Library) (item : Instruction) → Invokes (under C.Constants consts.now tables_of layout) item size arena.now frames.old.calls operands.now.args operands.now.keys (callees.Runs function) → IsCodeOf (under C.Constants consts.now tables_of layout) library function module_number code.now → ComesTo (under C.Constants consts.now tables_of layout) library item 0 arena.now arena.now frames.old.calls frames.new.calls result }
+    ensures steps { (layout : Layout) (library : Library) (item : Instruction)
+        → Invokes (under C.Constants consts.now tables_of layout) item size arena.now frames.old.calls operands.now.args operands.now.keys
+        (callees.Runs function) → IsCodeOf (under C.Constants consts.now tables_of layout) library function module_number code.now
+        → ComesTo (under C.Constants consts.now tables_of layout) library item 0 arena.now arena.now frames.old.calls frames.new.calls
+        result }
     ensures entered { under C.Constants consts.now Enters arena.now.objects function module_number code.now.locals size frames.old frames.new result }
-    ensures placed { (layout : Layout) (library : Library) → IsCodeOf (under C.Constants consts.now tables_of layout) library function module_number code.now → IsOk result → OfRunning (IsPlaced (view_of (under C.Constants consts.now tables_of layout))) frames.new.calls }
+    ensures placed { (layout : Layout) (library : Library)
+        → IsCodeOf (under C.Constants consts.now tables_of layout) library function module_number code.now → IsOk result
+        → OfRunning (IsPlaced (view_of (under C.Constants consts.now tables_of layout))) frames.new.calls }
     ensures stop { under C.Constants consts.now IsKnownStop arena.now.objects result }
     ensures room { bindings.new.room ≡ bindings.old.room }
 {
@@ -146,8 +152,11 @@ pub fn run_function<C: Constants>(
 pub fn skip_function(frames: &mut Frames, size: u32, end: u32)
     requires some { 0 < size }
     requires there { size ≤ length (running_slots frames.old.calls) }
-    ensures steps { (texts : TextName → Option (List ℕ)) (tuples : TupleName → Option (List Item)) (layout : Layout) (library : Library) (item : Instruction) (heap : Heap Item ℕ) (args : List Item) (keys : List (Item × Item)) (f : Callable)
-        → Invokes (tables_of texts tuples layout) item size heap frames.old.calls args keys (callees.Runs f) → code_at library (plain_name texts tuples f.module_name) f.code ≡ None
+    ensures steps { (texts : TextName → Option (List ℕ)) (tuples : TupleName
+        → Option (List Item)) (layout : Layout) (library : Library) (item : Instruction) (heap : Heap Item ℕ) (args : List Item)
+        (keys : List (Item × Item)) (f : Callable)
+        → Invokes (tables_of texts tuples layout) item size heap frames.old.calls args keys (callees.Runs f)
+        → code_at library (plain_name texts tuples f.module_name) f.code ≡ None
         → IsNext (tables_of texts tuples layout) end frames.old.calls
         → ComesTo (tables_of texts tuples layout) library item 0 heap heap frames.old.calls frames.new.calls (Ok tt) }
     ensures moved { frames.new ≡ on_running (with_value end size values.None) frames.old }

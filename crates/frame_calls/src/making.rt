@@ -68,7 +68,11 @@ pub fn make_function<C: Constants>(
     requires names { OfRunning (λ c. IsA arena.old.objects ADict c.names.cell) frames.old.calls }
     requires room { OfRunning (λ c. length c.slots < frames.old.slot_room) frames.old.calls }
     requires all_told { TellsAll C.Constants consts.now arena.old }
-    ensures steps { (layout : Layout) (library : Library) (at : ℕ) → IsNext (under C.Constants consts.now tables_of layout) end frames.old.calls → OfRunning (IsChild (under C.Constants consts.now tables_of layout) library at child) frames.old.calls → ComesTo (under C.Constants consts.now tables_of layout) library (Plain (instrs.Num ops.MakeFunction at)) 0 arena.old arena.new frames.old.calls frames.new.calls result }
+    ensures steps { (layout : Layout) (library : Library) (at : ℕ)
+        → IsNext (under C.Constants consts.now tables_of layout) end frames.old.calls
+        → OfRunning (IsChild (under C.Constants consts.now tables_of layout) library at child) frames.old.calls
+        → ComesTo (under C.Constants consts.now tables_of layout) library
+        (Plain (instrs.Num ops.MakeFunction at)) 0 arena.old arena.new frames.old.calls frames.new.calls result }
     ensures moved { Puts (C.text_of consts.now) (C.items_of consts.now) arena.new.objects end 0 frames.old frames.new result }
     ensures leaves { under C.Constants consts.now Leaves arena.old arena.new result }
 {
@@ -95,7 +99,9 @@ fn make_judged<C: Constants>(
     requires names { IsA arena.old.objects ADict names.cell }
     requires known { Knows C.Constants consts.now arena.old defaults }
     requires all_told { TellsAll C.Constants consts.now arena.old }
-    ensures effect { let see = sight C.Constants consts.now in IsEffect see.texts see.tuples arena.old arena.new result (λ w. judged w child.given (see.name child.name) (see.name child.module_name) child.code names.cell (see.value defaults)) }
+    ensures effect { let see = sight C.Constants consts.now
+        in IsEffect see.texts see.tuples arena.old arena.new result
+        (λ w. judged w child.given (see.name child.name) (see.name child.module_name) child.code names.cell (see.value defaults)) }
     ensures known { KnowsAnswer C.Constants consts.now arena.new result }
     ensures later { Later arena.old.objects arena.new.objects }
     ensures all_told { TellsAll C.Constants consts.now arena.new }
@@ -127,7 +133,11 @@ pub fn make_function_with<C: Constants>(
     requires names { OfRunning (λ c. IsA arena.old.objects ADict c.names.cell) frames.old.calls }
     requires defaults { under C.Constants consts.now HasDefaults arena.old.objects (running_slots frames.old.calls) }
     requires all_told { TellsAll C.Constants consts.now arena.old }
-    ensures steps { (layout : Layout) (library : Library) (at : ℕ) → IsNext (under C.Constants consts.now tables_of layout) end frames.old.calls → OfRunning (IsChild (under C.Constants consts.now tables_of layout) library at child) frames.old.calls → ComesTo (under C.Constants consts.now tables_of layout) library (Plain (instrs.Num ops.MakeFunctionDefargs at)) 0 arena.old arena.new frames.old.calls frames.new.calls result }
+    ensures steps { (layout : Layout) (library : Library) (at : ℕ)
+        → IsNext (under C.Constants consts.now tables_of layout) end frames.old.calls
+        → OfRunning (IsChild (under C.Constants consts.now tables_of layout) library at child) frames.old.calls
+        → ComesTo (under C.Constants consts.now tables_of layout) library
+        (Plain (instrs.Num ops.MakeFunctionDefargs at)) 0 arena.old arena.new frames.old.calls frames.new.calls result }
     ensures moved { Puts (C.text_of consts.now) (C.items_of consts.now) arena.new.objects end 2 frames.old frames.new result }
     ensures leaves { under C.Constants consts.now Leaves arena.old arena.new result }
 {

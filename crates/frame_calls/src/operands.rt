@@ -146,9 +146,13 @@ impl Operands {
     pub fn take(&mut self, frames: &Frames, number: u32)
         requires there { operands_count number ≤ length (running_slots frames.now.calls) }
         requires room { operands_count number ≤ self.old.room }
-        ensures taken { self.new ≡ record self.old { args = args_in number (running_slots frames.now.calls); keys = keys_in number (running_slots frames.now.calls) } }
+        ensures taken { self.new ≡ record self.old {
+          args = args_in number (running_slots frames.now.calls);
+          keys = keys_in number (running_slots frames.now.calls);
+        } }
         ensures few { length self.new.args < 256 }
-        ensures known { (texts : TextName → Option (List ℕ)) (tuples : TupleName → Option (List Item)) (objects : Objects Item ℕ) → All (IsKnownSlot texts tuples objects) (running_slots frames.now.calls) → AreKnown texts tuples objects self.new }
+        ensures known { (texts : TextName → Option (List ℕ)) (tuples : TupleName → Option (List Item)) (objects : Objects Item ℕ)
+            → All (IsKnownSlot texts tuples objects) (running_slots frames.now.calls) → AreKnown texts tuples objects self.new }
     {
         let pairs = number / 256;
         fill_args(frames, 2 * pairs, number % 256, &mut self.args);

@@ -24,7 +24,9 @@ pub fn visits_call<C: Constants>(
     requires few { length operands.now.args < 2 ^ 32 }
     requires known { under C.Constants consts.now AreKnown arena.now.objects operands.now }
     requires all_told { TellsAll C.Constants consts.now arena.now }
-    ensures { let see = sight C.Constants consts.now in (w : PlainWorld) → result ≡ min (visits_of (plain_callee see.texts see.tuples (world_over see.texts see.tuples w arena.now) callee) (map see.value operands.now.args) (map see.pair operands.now.keys)) most }
+    ensures { let see = sight C.Constants consts.now in (w : PlainWorld)
+        → result ≡ min (visits_of (plain_callee see.texts see.tuples (world_over see.texts see.tuples w arena.now) callee)
+        (map see.value operands.now.args) (map see.pair operands.now.keys)) most }
 {
     let args = operands.positional();
     let keys = operands.keywords();

@@ -54,7 +54,8 @@ IsBeginning shelf deep len prefix (imports.Stops (refusals.Missing missing)) = (
 IsBeginning shelf deep len prefix (imports.Stops refusals.Incompatible) = member_of shelf prefix ≡ Some members.Refused
 IsBeginning shelf deep len prefix (imports.Stops refusals.TooDeep) = (number : ℕ) × (member_of shelf prefix ≡ Some (members.Module number)) × (deep ≡ false)
 
-module _ (texts : StrNo → Option (List ℕ)) (tuples : ConstNo → Option (List Value)) (shelf : Shelf) (w : PlainWorld) (deep : Bool) (name : Name) (from level : Value) where
+module _ (texts : StrNo → Option (List ℕ)) (tuples : ConstNo
+    → Option (List Value)) (shelf : Shelf) (w : PlainWorld) (deep : Bool) (name : Name) (from level : Value) where
   -- the level is 0, and the first prefix of the name that isn't registered has this length
   pub record IsAbsent (len : ℕ) : Type 0 where
     pub absolute : is_zero (shown w.heap (plain texts tuples level)) ≡ true

@@ -54,9 +54,17 @@ pub fn begin_import<C: Constants>(
     requires locals { locals ≤ frames.old.slot_room }
     requires room { length modules.old.entries < modules.old.room }
     requires all_told { TellsAll C.Constants consts.now arena.old }
-    ensures steps { (tables : Tables) (shelf : Shelf) (library : Library) (w : PlainWorld) (name : Name) (from level : Item) → under C.Constants consts.now AreTablesOf names.now tables → AreOperands from level frames.old.calls → IsImport tables.texts tables.tuples shelf (world_of tables (with_modules tables w modules.old) arena.old) true name from level (imports.Begin number) → StandsFor tables shelf library → IsOutermost tables library number locals → (place : Place) (paid : ℕ) → step_of tables library place paid frames.old.calls (world_of tables (with_modules tables w modules.old) arena.old) (Names ops.ImportName name) ≡ outcome_of tables place (with_modules tables w modules.new) arena.new frames.old.calls frames.new.calls result }
-    ensures begun { (m : NameNumbers) → slice_get names.now number ≡ Some m → HasImported number locals m.name frames.old frames.new modules.old modules.new result }
-    ensures placed { (tables : Tables) (library : Library) → IsOutermost tables library number locals → All (IsPlaced (view_of tables)) frames.old.calls → All (IsPlaced (view_of tables)) frames.new.calls }
+    ensures steps { (tables : Tables) (shelf : Shelf) (library : Library) (w : PlainWorld) (name : Name) (from level : Item)
+        → under C.Constants consts.now AreTablesOf names.now tables → AreOperands from level frames.old.calls
+        → IsImport tables.texts tables.tuples shelf (world_of tables (with_modules tables w modules.old) arena.old) true name from level
+        (imports.Begin number) → StandsFor tables shelf library → IsOutermost tables library number locals → (place : Place) (paid : ℕ)
+        → step_of tables library place paid frames.old.calls (world_of tables (with_modules tables w modules.old) arena.old)
+        (Names ops.ImportName name)
+        ≡ outcome_of tables place (with_modules tables w modules.new) arena.new frames.old.calls frames.new.calls result }
+    ensures begun { (m : NameNumbers) → slice_get names.now number ≡ Some m
+        → HasImported number locals m.name frames.old frames.new modules.old modules.new result }
+    ensures placed { (tables : Tables) (library : Library) → IsOutermost tables library number locals
+        → All (IsPlaced (view_of tables)) frames.old.calls → All (IsPlaced (view_of tables)) frames.new.calls }
     ensures stop { IfErr result (λ stop. KnowsAnswer C.Constants consts.now arena.new (Err stop)) }
     ensures keeps { under C.Constants consts.now Keeps (length names.now) arena.old.objects arena.new.objects frames.old.calls frames.new.calls }
 {

@@ -44,7 +44,10 @@ fn throw_on<C: Constants>(
 ) -> After
     requires running { 0 < length frames.old.calls }
     requires named { All (λ c. c.module_number < length names.now) frames.old.calls }
-    ensures state { (tables : Tables) (w : PlainWorld) → under C.Constants consts.now AreTablesOf names.now tables → All (IsPlaced (view_of tables)) frames.old.calls → throwing_of tables x frames.old.calls (with_modules tables w modules.old) ≡ after_of tables result frames.new.calls (with_modules tables w modules.new) }
+    ensures state { (tables : Tables) (w : PlainWorld) → under C.Constants consts.now AreTablesOf names.now tables
+        → All (IsPlaced (view_of tables)) frames.old.calls
+        → throwing_of tables x frames.old.calls (with_modules tables w modules.old)
+        ≡ after_of tables result frames.new.calls (with_modules tables w modules.new) }
     ensures calls { frames.new ≡ record frames.old { calls = thrown x frames.old.calls } }
     ensures placed { (view : View) → All (IsPlaced view) frames.old.calls → All (IsPlaced view) frames.new.calls }
     ensures after { (objects : Objects Item ℕ) → IsA objects AnException x.cell → under C.Constants consts.now IsKnownAfter objects result }
@@ -72,10 +75,15 @@ fn resume<C: Constants>(
     requires last { All (under C.Constants consts.now HasLast) names.now }
     requires registered { Registered (under C.Constants consts.now plain_modules modules.old) (under C.Constants consts.now plain_heap arena.old) }
     requires all_told { TellsAll C.Constants consts.now arena.old }
-    ensures state { (tables : Tables) (w : PlainWorld) → under C.Constants consts.now AreTablesOf names.now tables → IsNext tables end frames.old.calls → All (IsPlaced (view_of tables)) frames.old.calls → resuming_of tables cause frames.old.calls (world_of tables (with_modules tables w modules.old) arena.old) ≡ after_of tables result frames.new.calls (world_of tables (with_modules tables w modules.new) arena.new) }
+    ensures state { (tables : Tables) (w : PlainWorld) → under C.Constants consts.now AreTablesOf names.now tables
+        → IsNext tables end frames.old.calls → All (IsPlaced (view_of tables)) frames.old.calls
+        → resuming_of tables cause frames.old.calls (world_of tables (with_modules tables w modules.old) arena.old)
+        ≡ after_of tables result frames.new.calls (world_of tables (with_modules tables w modules.new) arena.new) }
     ensures calls { frames.new ≡ record frames.old { calls = resumed cause end frames.old.calls } }
-    ensures placed { (view : View) → OfRunning (GoesOn view end cause) frames.old.calls → All (IsPlaced view) frames.old.calls → All (IsPlaced view) frames.new.calls }
-    ensures after { (objects : Objects Item ℕ) → under C.Constants consts.now IsKnownSlot objects (cause_slot cause) → under C.Constants consts.now IsKnownAfter objects result }
+    ensures placed { (view : View) → OfRunning (GoesOn view end cause) frames.old.calls → All (IsPlaced view) frames.old.calls
+        → All (IsPlaced view) frames.new.calls }
+    ensures after { (objects : Objects Item ℕ) → under C.Constants consts.now IsKnownSlot objects (cause_slot cause)
+        → under C.Constants consts.now IsKnownAfter objects result }
     ensures later { Later arena.old.objects arena.new.objects }
     ensures all_told { TellsAll C.Constants consts.now arena.new }
     ensures forgets { Forgets modules.old modules.new }
@@ -121,10 +129,17 @@ pub fn end_finally<C: Constants>(
     requires last { All (under C.Constants consts.now HasLast) names.now }
     requires registered { Registered (under C.Constants consts.now plain_modules modules.old) (under C.Constants consts.now plain_heap arena.old) }
     requires all_told { TellsAll C.Constants consts.now arena.old }
-    ensures steps { (tables : Tables) (place : Place) (w : PlainWorld) → under C.Constants consts.now AreTablesOf names.now tables → IsNext tables end frames.old.calls → All (IsPlaced (view_of tables)) frames.old.calls → StepsTo tables place (world_of tables (with_modules tables w modules.old) arena.old) (Plain (instrs.Plain ops.EndFinally)) frames.old.calls (after_of tables result frames.new.calls (world_of tables (with_modules tables w modules.new) arena.new)) }
-    ensures calls { (cause : Kept) → IsTop (cause_slot cause) frames.old.calls → frames.new ≡ record frames.old { calls = resumed cause end (change_first unkept frames.old.calls) } }
-    ensures placed { (view : View) (cause : Kept) → IsTop (cause_slot cause) frames.old.calls → OfRunning (GoesOn view end cause) frames.old.calls → All (IsPlaced view) frames.old.calls → All (IsPlaced view) frames.new.calls }
-    ensures after { All (under C.Constants consts.now IsKnownCall (length names.now) arena.old.objects) frames.old.calls → under C.Constants consts.now IsKnownAfter arena.new.objects result }
+    ensures steps { (tables : Tables) (place : Place) (w : PlainWorld) → under C.Constants consts.now AreTablesOf names.now tables
+        → IsNext tables end frames.old.calls → All (IsPlaced (view_of tables)) frames.old.calls
+        → StepsTo tables place (world_of tables (with_modules tables w modules.old) arena.old)
+        (Plain (instrs.Plain ops.EndFinally)) frames.old.calls
+        (after_of tables result frames.new.calls (world_of tables (with_modules tables w modules.new) arena.new)) }
+    ensures calls { (cause : Kept) → IsTop (cause_slot cause) frames.old.calls
+        → frames.new ≡ record frames.old { calls = resumed cause end (change_first unkept frames.old.calls) } }
+    ensures placed { (view : View) (cause : Kept) → IsTop (cause_slot cause) frames.old.calls
+        → OfRunning (GoesOn view end cause) frames.old.calls → All (IsPlaced view) frames.old.calls → All (IsPlaced view) frames.new.calls }
+    ensures after { All (under C.Constants consts.now IsKnownCall (length names.now) arena.old.objects) frames.old.calls
+        → under C.Constants consts.now IsKnownAfter arena.new.objects result }
     ensures keeps { under C.Constants consts.now Keeps (length names.now) arena.old.objects arena.new.objects frames.old.calls frames.new.calls }
     ensures forgets { Forgets modules.old modules.new }
 {

@@ -57,7 +57,9 @@ fn text_of<C: Constants>(consts: &C, name: u32) -> &[u8]
 
 /// The registered module of this name, and else `port`.
 fn module_of<C: Constants>(consts: &C, modules: &Modules, name: &[u8]) -> Value
-    ensures named { (w : PlainWorld) → under C.Constants consts.now plain result ≡ module_named (record w { modules = under C.Constants consts.now plain_modules modules.now }) name.now }
+    ensures named { (w : PlainWorld)
+        → under C.Constants consts.now plain result
+        ≡ module_named (record w { modules = under C.Constants consts.now plain_modules modules.now }) name.now }
     ensures is { IsModule result }
 {
     match modules.registered_as(consts, name) {
@@ -68,7 +70,9 @@ fn module_of<C: Constants>(consts: &C, modules: &Modules, name: &[u8]) -> Value
 
 /// The module that is wanted, all prefixes of whose name are there.
 fn wanted<C: Constants>(consts: &C, modules: &Modules, from: Value, text: &[u8]) -> Value
-    ensures named { let see = sight C.Constants consts.now in (w : PlainWorld) → see.value result ≡ module_named (record w { modules = plain_modules see.texts see.tuples modules.now }) (given_name (see.value from) text.now) }
+    ensures named { let see = sight C.Constants consts.now in (w : PlainWorld)
+        → see.value result ≡ module_named (record w { modules = plain_modules see.texts see.tuples modules.now })
+        (given_name (see.value from) text.now) }
     ensures is { IsModule result }
 {
     match from {
@@ -109,7 +113,10 @@ pub fn import_name<C: Constants>(
 ) -> Import
     requires operands { (from : Item) × (level : Item) × AreOperands from level frames.now.calls }
     requires name { IsSome (C.text_of consts.now (strs.Pool name)) }
-    ensures comes { let see = sight C.Constants consts.now in (from level : Item) (w : PlainWorld) → AreOperands from level frames.now.calls → IsImport see.texts see.tuples library.now (record w { modules = plain_modules see.texts see.tuples modules.now }) (nat_lt (length frames.now.calls) LIMIT) (see.name name) from level result }
+    ensures comes { let see = sight C.Constants consts.now in (from level : Item) (w : PlainWorld)
+        → AreOperands from level frames.now.calls
+        → IsImport see.texts see.tuples library.now (record w { modules = plain_modules see.texts see.tuples modules.now })
+        (nat_lt (length frames.now.calls) LIMIT) (see.name name) from level result }
     ensures given { (v : Item) → result ≡ imports.Put v → IsModule v }
 {
     let from = value_at(frames, 0);

@@ -26,7 +26,8 @@ pub(crate) fn value_at(frames: &Frames, i: u32) -> Value
 
 /// Whether a value is the number 0, as which False counts.
 pub(crate) fn is_zero(v: Value) -> bool
-    ensures { (texts : TextName → Option (List ℕ)) (tuples : TupleName → Option (List Item)) (heap : PlainHeap) → result ≡ is_zero_in (shown heap (plain texts tuples v)) }
+    ensures { (texts : TextName → Option (List ℕ)) (tuples : TupleName → Option (List Item)) (heap : PlainHeap)
+        → result ≡ is_zero_in (shown heap (plain texts tuples v)) }
 {
     match v {
         Value::Bool(b) => !b,

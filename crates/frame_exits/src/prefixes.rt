@@ -24,7 +24,9 @@ pub(crate) fn first_absent<C: Constants>(
     modules: &Modules,
     name: &[u8],
 ) -> Option<usize>
-    ensures first { (w : PlainWorld) → option_map (λ len. take len name.now) result ≡ first_absent_in (record w { modules = under C.Constants consts.now plain_modules modules.now }) (prefixes name.now) }
+    ensures first { (w : PlainWorld)
+        → option_map (λ len. take len name.now) result
+        ≡ first_absent_in (record w { modules = under C.Constants consts.now plain_modules modules.now }) (prefixes name.now) }
     ensures within { IfSome result (λ len. len ≤ length name.now) }
 {
     for at in 0..name.len() {

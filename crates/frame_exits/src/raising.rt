@@ -41,7 +41,10 @@ pub fn raise<C: Constants>(
     requires named { All (λ c. c.module_number < length names.now) frames.old.calls }
     requires stop { KnowsAnswer C.Constants consts.now arena.old (Err stop) }
     requires all_told { TellsAll C.Constants consts.now arena.old }
-    ensures state { (tables : Tables) (w : PlainWorld) → under C.Constants consts.now AreTablesOf names.now tables → All (IsPlaced (view_of tables)) frames.old.calls → stopping_of tables (place_of tables place) (with_modules tables w modules.old) arena.old frames.old.calls stop ≡ state_of tables result frames.new.calls (world_of tables (with_modules tables w modules.new) arena.new) }
+    ensures state { (tables : Tables) (w : PlainWorld) → under C.Constants consts.now AreTablesOf names.now tables
+        → All (IsPlaced (view_of tables)) frames.old.calls
+        → stopping_of tables (place_of tables place) (with_modules tables w modules.old) arena.old frames.old.calls stop
+        ≡ state_of tables result frames.new.calls (world_of tables (with_modules tables w modules.new) arena.new) }
     ensures thrown { HasThrown arena.new.objects frames.old frames.new result }
     ensures placed { (view : View) → All (IsPlaced view) frames.old.calls → All (IsPlaced view) frames.new.calls }
     ensures keeps { under C.Constants consts.now Keeps (length names.now) arena.old.objects arena.new.objects frames.old.calls frames.new.calls }
@@ -64,7 +67,11 @@ pub fn raise_obj<C: Constants>(
     requires value { (v : Item) × IsTop (slots.Value v) frames.old.calls × Knows C.Constants consts.now arena.old v }
     requires named { All (λ c. c.module_number < length names.now) frames.old.calls }
     requires all_told { TellsAll C.Constants consts.now arena.old }
-    ensures steps { (tables : Tables) (w : PlainWorld) → under C.Constants consts.now AreTablesOf names.now tables → All (IsPlaced (view_of tables)) frames.old.calls → StepsTo tables (place_of tables place) (world_of tables (with_modules tables w modules.old) arena.old) (Plain (instrs.Plain ops.RaiseObj)) frames.old.calls (state_of tables result frames.new.calls (world_of tables (with_modules tables w modules.new) arena.new)) }
+    ensures steps { (tables : Tables) (w : PlainWorld) → under C.Constants consts.now AreTablesOf names.now tables
+        → All (IsPlaced (view_of tables)) frames.old.calls
+        → StepsTo tables (place_of tables place) (world_of tables (with_modules tables w modules.old) arena.old)
+        (Plain (instrs.Plain ops.RaiseObj)) frames.old.calls
+        (state_of tables result frames.new.calls (world_of tables (with_modules tables w modules.new) arena.new)) }
     ensures thrown { HasThrown arena.new.objects frames.old frames.new result }
     ensures placed { (view : View) → All (IsPlaced view) frames.old.calls → All (IsPlaced view) frames.new.calls }
     ensures keeps { under C.Constants consts.now Keeps (length names.now) arena.old.objects arena.new.objects frames.old.calls frames.new.calls }
@@ -90,7 +97,11 @@ pub fn raise_last<C: Constants>(
     requires entries { OfRunning (λ c. All (KeepsException arena.old.objects) c.entries) frames.old.calls }
     requires named { All (λ c. c.module_number < length names.now) frames.old.calls }
     requires all_told { TellsAll C.Constants consts.now arena.old }
-    ensures steps { (tables : Tables) (w : PlainWorld) → under C.Constants consts.now AreTablesOf names.now tables → All (IsPlaced (view_of tables)) frames.old.calls → StepsTo tables (place_of tables place) (world_of tables (with_modules tables w modules.old) arena.old) (Plain (instrs.Plain ops.RaiseLast)) frames.old.calls (state_of tables result frames.new.calls (world_of tables (with_modules tables w modules.new) arena.new)) }
+    ensures steps { (tables : Tables) (w : PlainWorld) → under C.Constants consts.now AreTablesOf names.now tables
+        → All (IsPlaced (view_of tables)) frames.old.calls
+        → StepsTo tables (place_of tables place) (world_of tables (with_modules tables w modules.old) arena.old)
+        (Plain (instrs.Plain ops.RaiseLast)) frames.old.calls
+        (state_of tables result frames.new.calls (world_of tables (with_modules tables w modules.new) arena.new)) }
     ensures thrown { HasThrown arena.new.objects frames.old frames.new result }
     ensures placed { (view : View) → All (IsPlaced view) frames.old.calls → All (IsPlaced view) frames.new.calls }
     ensures keeps { under C.Constants consts.now Keeps (length names.now) arena.old.objects arena.new.objects frames.old.calls frames.new.calls }

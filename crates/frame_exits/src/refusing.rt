@@ -43,11 +43,17 @@ fn fault_of(name: u32, refusal: Refusal) -> Fault
 /// The import of the name fails so, and the calls stay.
 pub fn refuse_import(name: u32, refusal: Refusal) -> Stop
     ensures fault { result ≡ stops.Raises (refusal_fault name refusal) }
-    ensures steps { (tables : Tables) (shelf : Shelf) (library : Library) (w : PlainWorld) (heap : Heap Item ℕ) (calls : List Call) (from level : Item) → AreOperands from level calls
-        → IsImport tables.texts tables.tuples shelf (world_of tables w heap) (nat_lt (length calls) LIMIT) (plain_name tables.texts tables.tuples name) from level (imports.Stops refusal) → StandsFor tables shelf library
-        → (place : Place) (paid : ℕ) → step_of tables library place paid calls (world_of tables w heap) (Names ops.ImportName (plain_name tables.texts tables.tuples name)) ≡ stopping_of tables place w heap calls result }
-    ensures known { (texts : TextName → Option (List ℕ)) (tuples : TupleName → Option (List Item)) (shelf : Shelf) (w : PlainWorld) (heap : Heap Item ℕ) (calls : List Call) (from level : Item)
-        → IsImport texts tuples shelf w (nat_lt (length calls) LIMIT) (plain_name texts tuples name) from level (imports.Stops refusal) → IsSome (texts (strs.Pool name))
+    ensures steps { (tables : Tables) (shelf : Shelf) (library : Library) (w : PlainWorld) (heap : Heap Item ℕ) (calls : List Call)
+        (from level : Item) → AreOperands from level calls
+        → IsImport tables.texts tables.tuples shelf (world_of tables w heap) (nat_lt (length calls) LIMIT)
+        (plain_name tables.texts tables.tuples name) from level (imports.Stops refusal) → StandsFor tables shelf library
+        → (place : Place) (paid : ℕ)
+        → step_of tables library place paid calls (world_of tables w heap)
+        (Names ops.ImportName (plain_name tables.texts tables.tuples name)) ≡ stopping_of tables place w heap calls result }
+    ensures known { (texts : TextName → Option (List ℕ)) (tuples : TupleName
+        → Option (List Item)) (shelf : Shelf) (w : PlainWorld) (heap : Heap Item ℕ) (calls : List Call) (from level : Item)
+        → IsImport texts tuples shelf w (nat_lt (length calls) LIMIT) (plain_name texts tuples name) from level (imports.Stops refusal)
+        → IsSome (texts (strs.Pool name))
         → IsKnownAnswer texts tuples heap.objects (Err result) }
 {
     Stop::Raises(fault_of(name, refusal))

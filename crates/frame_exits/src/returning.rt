@@ -64,7 +64,11 @@ fn store<C: Constants>(
     requires is_module { IsA arena.old.objects AModule m.cell }
     requires registered { Registered (under C.Constants consts.now plain_modules modules.now) (under C.Constants consts.now plain_heap arena.old) }
     requires all_told { TellsAll C.Constants consts.now arena.old }
-    ensures state { let see = sight C.Constants consts.now in (place : Place) (w : PlainWorld) (frame : states.Frame) (frames : List states.Frame) → on_given (given place (stored_module (world_with see.texts see.tuples w arena.old modules.now) (see.name name.name) m.cell)) frame frames (λ done. Running 0 frame frames) ≡ stored_state result frame frames (world_with see.texts see.tuples w arena.new modules.now) }
+    ensures state { let see = sight C.Constants consts.now
+        in (place : Place) (w : PlainWorld) (frame : states.Frame) (frames : List states.Frame)
+        → on_given (given place (stored_module (world_with see.texts see.tuples w arena.old modules.now) (see.name name.name) m.cell))
+        frame frames (λ done. Running 0 frame frames)
+        ≡ stored_state result frame frames (world_with see.texts see.tuples w arena.new modules.now) }
     ensures later { Later arena.old.objects arena.new.objects }
     ensures all_told { TellsAll C.Constants consts.now arena.new }
 {
@@ -89,7 +93,11 @@ fn give<C: Constants>(
     requires role { HasModule arena.old.objects role }
     requires registered { Registered (under C.Constants consts.now plain_modules modules.now) (under C.Constants consts.now plain_heap arena.old) }
     requires all_told { TellsAll C.Constants consts.now arena.old }
-    ensures state { let see = sight C.Constants consts.now in (tables : Tables) (w : PlainWorld) → tables.texts ≡ see.texts → tables.tuples ≡ see.tuples → given_to (value_of tables v) (role_of (view_of tables) (see.name name.name) role) (map (frame_of (view_of tables)) frames.now.calls) (world_of tables (with_modules tables w modules.now) arena.old) ≡ after_of tables result frames.now.calls (world_of tables (with_modules tables w modules.now) arena.new) }
+    ensures state { let see = sight C.Constants consts.now in (tables : Tables) (w : PlainWorld) → tables.texts ≡ see.texts
+        → tables.tuples ≡ see.tuples
+        → given_to (value_of tables v) (role_of (view_of tables) (see.name name.name) role)
+        (map (frame_of (view_of tables)) frames.now.calls) (world_of tables (with_modules tables w modules.now) arena.old)
+        ≡ after_of tables result frames.now.calls (world_of tables (with_modules tables w modules.now) arena.new) }
     ensures after { (objects : Objects Item ℕ) → under C.Constants consts.now IsKnown objects v → under C.Constants consts.now IsKnownAfter objects result }
     ensures later { Later arena.old.objects arena.new.objects }
     ensures all_told { TellsAll C.Constants consts.now arena.new }
@@ -123,7 +131,10 @@ pub(crate) fn leave<C: Constants>(
     requires last { All (under C.Constants consts.now HasLast) names.now }
     requires registered { Registered (under C.Constants consts.now plain_modules modules.now) (under C.Constants consts.now plain_heap arena.old) }
     requires all_told { TellsAll C.Constants consts.now arena.old }
-    ensures state { (tables : Tables) (w : PlainWorld) → under C.Constants consts.now AreTablesOf names.now tables → OfRunning (IsPlaced (view_of tables)) frames.old.calls → leaving_of tables v frames.old.calls (world_of tables (with_modules tables w modules.now) arena.old) ≡ after_of tables result frames.new.calls (world_of tables (with_modules tables w modules.now) arena.new) }
+    ensures state { (tables : Tables) (w : PlainWorld) → under C.Constants consts.now AreTablesOf names.now tables
+        → OfRunning (IsPlaced (view_of tables)) frames.old.calls
+        → leaving_of tables v frames.old.calls (world_of tables (with_modules tables w modules.now) arena.old)
+        ≡ after_of tables result frames.new.calls (world_of tables (with_modules tables w modules.now) arena.new) }
     ensures calls { frames.new ≡ record frames.old { calls = left v frames.old.calls } }
     ensures placed { (view : View) → All (IsPlaced view) frames.old.calls → All (IsPlaced view) frames.new.calls }
     ensures after { (objects : Objects Item ℕ) → under C.Constants consts.now IsKnown objects v → under C.Constants consts.now IsKnownAfter objects result }
@@ -160,10 +171,16 @@ pub fn return_value<C: Constants>(
     requires last { All (under C.Constants consts.now HasLast) names.now }
     requires registered { Registered (under C.Constants consts.now plain_modules modules.now) (under C.Constants consts.now plain_heap arena.old) }
     requires all_told { TellsAll C.Constants consts.now arena.old }
-    ensures steps { (tables : Tables) (place : Place) (w : PlainWorld) → under C.Constants consts.now AreTablesOf names.now tables → OfRunning (IsPlaced (view_of tables)) frames.old.calls → StepsTo tables place (world_of tables (with_modules tables w modules.now) arena.old) (Plain (instrs.Plain ops.ReturnValue)) frames.old.calls (after_of tables result frames.new.calls (world_of tables (with_modules tables w modules.now) arena.new)) }
-    ensures calls { (v : Item) → IsTop (slots.Value v) frames.old.calls → frames.new ≡ record frames.old { calls = left v (change_first (λ c. record c { slots = drop 1 c.slots }) frames.old.calls) } }
+    ensures steps { (tables : Tables) (place : Place) (w : PlainWorld) → under C.Constants consts.now AreTablesOf names.now tables
+        → OfRunning (IsPlaced (view_of tables)) frames.old.calls
+        → StepsTo tables place (world_of tables (with_modules tables w modules.now) arena.old)
+        (Plain (instrs.Plain ops.ReturnValue)) frames.old.calls
+        (after_of tables result frames.new.calls (world_of tables (with_modules tables w modules.now) arena.new)) }
+    ensures calls { (v : Item) → IsTop (slots.Value v) frames.old.calls
+        → frames.new ≡ record frames.old { calls = left v (change_first (λ c. record c { slots = drop 1 c.slots }) frames.old.calls) } }
     ensures placed { (view : View) → All (IsPlaced view) frames.old.calls → All (IsPlaced view) frames.new.calls }
-    ensures after { All (under C.Constants consts.now IsKnownCall (length names.now) arena.old.objects) frames.old.calls → under C.Constants consts.now IsKnownAfter arena.new.objects result }
+    ensures after { All (under C.Constants consts.now IsKnownCall (length names.now) arena.old.objects) frames.old.calls
+        → under C.Constants consts.now IsKnownAfter arena.new.objects result }
     ensures keeps { under C.Constants consts.now Keeps (length names.now) arena.old.objects arena.new.objects frames.old.calls frames.new.calls }
 {
     let Slot::Value(v) = frames.pop() else {
@@ -175,10 +192,13 @@ pub fn return_value<C: Constants>(
 /// The call that waited takes the value of the one that it made, and goes on at `end`, behind its instruction.
 pub fn receive(frames: &mut Frames, v: Value, end: u32)
     requires { OfRunning (λ c. length c.slots < frames.old.slot_room) frames.old.calls }
-    ensures state { (tables : Tables) (w : PlainWorld) → IsNext tables end frames.old.calls → receiving_of tables v frames.old.calls w ≡ running_of tables 0 frames.new.calls w }
+    ensures state { (tables : Tables) (w : PlainWorld) → IsNext tables end frames.old.calls
+        → receiving_of tables v frames.old.calls w ≡ running_of tables 0 frames.new.calls w }
     ensures moved { frames.new ≡ on_running (λ c. gone end (slots.Value v ∷ c.slots) c) frames.old }
-    ensures placed { (view : View) → OfRunning (λ c. Starts (starts_of view c) end) frames.old.calls → All (IsPlaced view) frames.old.calls → All (IsPlaced view) frames.new.calls }
-    ensures known { (texts : TextName → Option (List ℕ)) (tuples : TupleName → Option (List Item)) (modules : ℕ) (objects : Objects Item ℕ) → IsKnown texts tuples objects v
+    ensures placed { (view : View) → OfRunning (λ c. Starts (starts_of view c) end) frames.old.calls → All (IsPlaced view) frames.old.calls
+        → All (IsPlaced view) frames.new.calls }
+    ensures known { (texts : TextName → Option (List ℕ)) (tuples : TupleName → Option (List Item)) (modules : ℕ) (objects : Objects Item ℕ)
+        → IsKnown texts tuples objects v
         → All (IsKnownCall texts tuples modules objects) frames.old.calls → All (IsKnownCall texts tuples modules objects) frames.new.calls }
 {
     placed_law();

@@ -30,7 +30,9 @@ fn abandon<C: Constants>(
     role: Role,
 )
     requires { module_number < length names.now }
-    ensures abandoned { (tables : Tables) (w : PlainWorld) → under C.Constants consts.now AreTablesOf names.now tables → with_modules tables w modules.new ≡ abandoned (role_of (view_of tables) (tables.module_name module_number) role) (with_modules tables w modules.old) }
+    ensures abandoned { (tables : Tables) (w : PlainWorld) → under C.Constants consts.now AreTablesOf names.now tables
+        → with_modules tables w modules.new
+        ≡ abandoned (role_of (view_of tables) (tables.module_name module_number) role) (with_modules tables w modules.old) }
     ensures forgets { Forgets modules.old modules.new }
 {
     match role {
@@ -51,7 +53,11 @@ fn catch<C: Constants>(
     x: ExcNo,
 ) -> bool
     requires { OfRunning (λ c. c.module_number < length names.now) frames.old.calls }
-    ensures state { (tables : Tables) (w : PlainWorld) → under C.Constants consts.now AreTablesOf names.now tables → OfRunning (IsPlaced (view_of tables)) frames.old.calls → throwing_of tables x frames.old.calls (with_modules tables w modules.old) ≡ (if result then running_of tables 0 frames.new.calls (with_modules tables w modules.new) else throwing_of tables x frames.new.calls (with_modules tables w modules.new)) }
+    ensures state { (tables : Tables) (w : PlainWorld) → under C.Constants consts.now AreTablesOf names.now tables
+        → OfRunning (IsPlaced (view_of tables)) frames.old.calls
+        → throwing_of tables x frames.old.calls (with_modules tables w modules.old) ≡ (if result
+        then running_of tables 0 frames.new.calls (with_modules tables w modules.new)
+        else throwing_of tables x frames.new.calls (with_modules tables w modules.new)) }
     ensures calls { frames.new ≡ record frames.old { calls = if result then thrown x frames.old.calls else drop 1 frames.old.calls } }
     ensures thrown { thrown x frames.old.calls ≡ (if result then frames.new.calls else thrown x frames.new.calls) }
     ensures caught { result ≡ true → thrown_out x frames.new.calls ≡ None }
@@ -79,7 +85,10 @@ fn throw<C: Constants>(
     x: ExcNo,
 ) -> Option<End>
     requires { All (λ c. c.module_number < length names.now) frames.old.calls }
-    ensures state { (tables : Tables) (w : PlainWorld) → under C.Constants consts.now AreTablesOf names.now tables → All (IsPlaced (view_of tables)) frames.old.calls → throwing_of tables x frames.old.calls (with_modules tables w modules.old) ≡ state_of tables result frames.new.calls (with_modules tables w modules.new) }
+    ensures state { (tables : Tables) (w : PlainWorld) → under C.Constants consts.now AreTablesOf names.now tables
+        → All (IsPlaced (view_of tables)) frames.old.calls
+        → throwing_of tables x frames.old.calls (with_modules tables w modules.old)
+        ≡ state_of tables result frames.new.calls (with_modules tables w modules.new) }
     ensures calls { frames.new ≡ record frames.old { calls = thrown x frames.old.calls } }
     ensures end { result ≡ thrown_out x frames.new.calls }
     ensures forgets { Forgets modules.old modules.new }
@@ -103,7 +112,10 @@ pub(crate) fn fail<C: Constants>(
 ) -> Option<End>
     requires running { 0 < length frames.old.calls }
     requires named { All (λ c. c.module_number < length names.now) frames.old.calls }
-    ensures state { (tables : Tables) (w : PlainWorld) → under C.Constants consts.now AreTablesOf names.now tables → All (IsPlaced (view_of tables)) frames.old.calls → failing_of tables frames.old.calls (failing (with_modules tables w modules.old) failure) ≡ state_of tables result frames.new.calls (with_modules tables w modules.new) }
+    ensures state { (tables : Tables) (w : PlainWorld) → under C.Constants consts.now AreTablesOf names.now tables
+        → All (IsPlaced (view_of tables)) frames.old.calls
+        → failing_of tables frames.old.calls (failing (with_modules tables w modules.old) failure)
+        ≡ state_of tables result frames.new.calls (with_modules tables w modules.new) }
     ensures calls { frames.new ≡ record frames.old { calls = failed_calls failure frames.old.calls } }
     ensures end { result ≡ failed_end failure frames.old.calls }
     ensures placed { (view : View) → All (IsPlaced view) frames.old.calls → All (IsPlaced view) frames.new.calls }

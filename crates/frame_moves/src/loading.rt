@@ -17,7 +17,8 @@ use vm_frames::{Frames, Slot, StrNo, Value};
 /// LOAD_CONST_NONE.
 pub fn load_none(frames: &mut Frames, end: u32)
     requires { OfRunning (λ c. length c.slots < frames.old.slot_room) frames.old.calls }
-    ensures steps { (tables : Tables) (w : PlainWorld) → IsNext tables end frames.old.calls → Steps tables w (Plain (instrs.Plain ops.LoadConstNone)) frames.old.calls frames.new.calls }
+    ensures steps { (tables : Tables) (w : PlainWorld) → IsNext tables end frames.old.calls
+        → Steps tables w (Plain (instrs.Plain ops.LoadConstNone)) frames.old.calls frames.new.calls }
     ensures moved { frames.new ≡ on_running (λ c. gone end (slots.Value values.None ∷ c.slots) c) frames.old }
 {
     go_with(frames, Slot::Value(Value::None), end);
@@ -26,7 +27,8 @@ pub fn load_none(frames: &mut Frames, end: u32)
 /// LOAD_CONST_FALSE.
 pub fn load_false(frames: &mut Frames, end: u32)
     requires { OfRunning (λ c. length c.slots < frames.old.slot_room) frames.old.calls }
-    ensures steps { (tables : Tables) (w : PlainWorld) → IsNext tables end frames.old.calls → Steps tables w (Plain (instrs.Plain ops.LoadConstFalse)) frames.old.calls frames.new.calls }
+    ensures steps { (tables : Tables) (w : PlainWorld) → IsNext tables end frames.old.calls
+        → Steps tables w (Plain (instrs.Plain ops.LoadConstFalse)) frames.old.calls frames.new.calls }
     ensures moved { frames.new ≡ on_running (λ c. gone end (slots.Value (values.Bool false) ∷ c.slots) c) frames.old }
 {
     go_with(frames, Slot::Value(Value::Bool(false)), end);
@@ -35,7 +37,8 @@ pub fn load_false(frames: &mut Frames, end: u32)
 /// LOAD_CONST_TRUE.
 pub fn load_true(frames: &mut Frames, end: u32)
     requires { OfRunning (λ c. length c.slots < frames.old.slot_room) frames.old.calls }
-    ensures steps { (tables : Tables) (w : PlainWorld) → IsNext tables end frames.old.calls → Steps tables w (Plain (instrs.Plain ops.LoadConstTrue)) frames.old.calls frames.new.calls }
+    ensures steps { (tables : Tables) (w : PlainWorld) → IsNext tables end frames.old.calls
+        → Steps tables w (Plain (instrs.Plain ops.LoadConstTrue)) frames.old.calls frames.new.calls }
     ensures moved { frames.new ≡ on_running (λ c. gone end (slots.Value (values.Bool true) ∷ c.slots) c) frames.old }
 {
     go_with(frames, Slot::Value(Value::Bool(true)), end);
@@ -44,7 +47,8 @@ pub fn load_true(frames: &mut Frames, end: u32)
 /// LOAD_NULL.
 pub fn load_null(frames: &mut Frames, end: u32)
     requires { OfRunning (λ c. length c.slots < frames.old.slot_room) frames.old.calls }
-    ensures steps { (tables : Tables) (w : PlainWorld) → IsNext tables end frames.old.calls → Steps tables w (Plain (instrs.Plain ops.LoadNull)) frames.old.calls frames.new.calls }
+    ensures steps { (tables : Tables) (w : PlainWorld) → IsNext tables end frames.old.calls
+        → Steps tables w (Plain (instrs.Plain ops.LoadNull)) frames.old.calls frames.new.calls }
     ensures moved { frames.new ≡ on_running (λ c. gone end (slots.Null ∷ c.slots) c) frames.old }
 {
     go_with(frames, Slot::Null, end);
@@ -53,7 +57,8 @@ pub fn load_null(frames: &mut Frames, end: u32)
 /// LOAD_CONST_SMALL_INT, in one byte or in more.
 pub fn load_int(frames: &mut Frames, n: i32, end: u32)
     requires { OfRunning (λ c. length c.slots < frames.old.slot_room) frames.old.calls }
-    ensures steps { (tables : Tables) (w : PlainWorld) → IsNext tables end frames.old.calls → Steps tables w (Plain (instrs.Int n)) frames.old.calls frames.new.calls }
+    ensures steps { (tables : Tables) (w : PlainWorld) → IsNext tables end frames.old.calls
+        → Steps tables w (Plain (instrs.Int n)) frames.old.calls frames.new.calls }
     ensures moved { frames.new ≡ on_running (λ c. gone end (slots.Value (values.Int n) ∷ c.slots) c) frames.old }
 {
     go_with(frames, Slot::Value(Value::Int(n)), end);
@@ -62,7 +67,8 @@ pub fn load_int(frames: &mut Frames, n: i32, end: u32)
 /// LOAD_CONST_STRING: the text with this number.
 pub fn load_text(frames: &mut Frames, text: StrNo, end: u32)
     requires { OfRunning (λ c. length c.slots < frames.old.slot_room) frames.old.calls }
-    ensures steps { (tables : Tables) (w : PlainWorld) → IsNext tables end frames.old.calls → Steps tables w (Names ops.LoadConstString (text_of tables text)) frames.old.calls frames.new.calls }
+    ensures steps { (tables : Tables) (w : PlainWorld) → IsNext tables end frames.old.calls
+        → Steps tables w (Names ops.LoadConstString (text_of tables text)) frames.old.calls frames.new.calls }
     ensures moved { frames.new ≡ on_running (λ c. gone end (slots.Value (values.Str text) ∷ c.slots) c) frames.old }
 {
     go_with(frames, Slot::Value(Value::Str(text)), end);
@@ -71,7 +77,8 @@ pub fn load_text(frames: &mut Frames, text: StrNo, end: u32)
 /// LOAD_CONST_OBJ: a constant of the module.
 pub fn load_object(frames: &mut Frames, v: Value, end: u32)
     requires { OfRunning (λ c. length c.slots < frames.old.slot_room) frames.old.calls }
-    ensures steps { (tables : Tables) (w : PlainWorld) → IsNext tables end frames.old.calls → Steps tables w (Loads (value_of tables v)) frames.old.calls frames.new.calls }
+    ensures steps { (tables : Tables) (w : PlainWorld) → IsNext tables end frames.old.calls
+        → Steps tables w (Loads (value_of tables v)) frames.old.calls frames.new.calls }
     ensures moved { frames.new ≡ on_running (λ c. gone end (slots.Value v ∷ c.slots) c) frames.old }
 {
     go_with(frames, Slot::Value(v), end);

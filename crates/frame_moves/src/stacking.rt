@@ -16,7 +16,8 @@ use vm_frames::Frames;
 pub fn dup_top(frames: &mut Frames, end: u32)
     requires there { OfRunning (λ c. 0 < length c.slots) frames.old.calls }
     requires room { OfRunning (λ c. length c.slots < frames.old.slot_room) frames.old.calls }
-    ensures steps { (tables : Tables) (w : PlainWorld) → IsNext tables end frames.old.calls → Steps tables w (Plain (instrs.Plain ops.DupTop)) frames.old.calls frames.new.calls }
+    ensures steps { (tables : Tables) (w : PlainWorld) → IsNext tables end frames.old.calls
+        → Steps tables w (Plain (instrs.Plain ops.DupTop)) frames.old.calls frames.new.calls }
     ensures moved { frames.new ≡ on_running (λ c. gone end (doubled c.slots) c) frames.old }
 {
     let top = frames.slot(0);
@@ -27,7 +28,8 @@ pub fn dup_top(frames: &mut Frames, end: u32)
 pub fn dup_top_two(frames: &mut Frames, end: u32)
     requires there { OfRunning (λ c. 1 < length c.slots) frames.old.calls }
     requires room { OfRunning (λ c. suc (length c.slots) < frames.old.slot_room) frames.old.calls }
-    ensures steps { (tables : Tables) (w : PlainWorld) → IsNext tables end frames.old.calls → Steps tables w (Plain (instrs.Plain ops.DupTopTwo)) frames.old.calls frames.new.calls }
+    ensures steps { (tables : Tables) (w : PlainWorld) → IsNext tables end frames.old.calls
+        → Steps tables w (Plain (instrs.Plain ops.DupTopTwo)) frames.old.calls frames.new.calls }
     ensures moved { frames.new ≡ on_running (λ c. gone end (doubled_two c.slots) c) frames.old }
 {
     let top = frames.slot(0);
@@ -39,7 +41,8 @@ pub fn dup_top_two(frames: &mut Frames, end: u32)
 /// POP_TOP.
 pub fn pop_top(frames: &mut Frames, end: u32)
     requires { OfRunning (λ c. 0 < length c.slots) frames.old.calls }
-    ensures steps { (tables : Tables) (w : PlainWorld) → IsNext tables end frames.old.calls → Steps tables w (Plain (instrs.Plain ops.PopTop)) frames.old.calls frames.new.calls }
+    ensures steps { (tables : Tables) (w : PlainWorld) → IsNext tables end frames.old.calls
+        → Steps tables w (Plain (instrs.Plain ops.PopTop)) frames.old.calls frames.new.calls }
     ensures moved { frames.new ≡ on_running (λ c. gone end (drop 1 c.slots) c) frames.old }
 {
     let _ = go_without(frames, end);
@@ -48,7 +51,8 @@ pub fn pop_top(frames: &mut Frames, end: u32)
 /// ROT_TWO.
 pub fn rot_two(frames: &mut Frames, end: u32)
     requires { OfRunning (λ c. 1 < length c.slots) frames.old.calls }
-    ensures steps { (tables : Tables) (w : PlainWorld) → IsNext tables end frames.old.calls → Steps tables w (Plain (instrs.Plain ops.RotTwo)) frames.old.calls frames.new.calls }
+    ensures steps { (tables : Tables) (w : PlainWorld) → IsNext tables end frames.old.calls
+        → Steps tables w (Plain (instrs.Plain ops.RotTwo)) frames.old.calls frames.new.calls }
     ensures moved { frames.new ≡ on_running (λ c. gone end (turned_two c.slots) c) frames.old }
 {
     let top = frames.slot(0);
@@ -61,7 +65,8 @@ pub fn rot_two(frames: &mut Frames, end: u32)
 /// ROT_THREE.
 pub fn rot_three(frames: &mut Frames, end: u32)
     requires { OfRunning (λ c. 2 < length c.slots) frames.old.calls }
-    ensures steps { (tables : Tables) (w : PlainWorld) → IsNext tables end frames.old.calls → Steps tables w (Plain (instrs.Plain ops.RotThree)) frames.old.calls frames.new.calls }
+    ensures steps { (tables : Tables) (w : PlainWorld) → IsNext tables end frames.old.calls
+        → Steps tables w (Plain (instrs.Plain ops.RotThree)) frames.old.calls frames.new.calls }
     ensures moved { frames.new ≡ on_running (λ c. gone end (turned_three c.slots) c) frames.old }
 {
     let top = frames.slot(0);

@@ -16,9 +16,15 @@ use vm_frames::{Frames, Slot};
 pub fn store_fast(frames: &mut Frames, n: u32, end: u32)
     requires value { (v : Item) × IsTop (slots.Value v) frames.old.calls }
     requires local { OfRunning (λ c. n < length c.locals) frames.old.calls }
-    ensures short { (tables : Tables) (w : PlainWorld) → IsNext tables end frames.old.calls → Steps tables w (Plain (instrs.Num ops.StoreFast n)) frames.old.calls frames.new.calls }
-    ensures long { (tables : Tables) (w : PlainWorld) → IsNext tables end frames.old.calls → Steps tables w (Plain (instrs.Num ops.StoreFastN n)) frames.old.calls frames.new.calls }
-    ensures moved { (v : Item) → IsTop (slots.Value v) frames.old.calls → frames.new ≡ on_running (λ c. record c { at = end; slots = drop 1 c.slots; locals = slice_set c.locals n (Some v) }) frames.old }
+    ensures short { (tables : Tables) (w : PlainWorld) → IsNext tables end frames.old.calls
+        → Steps tables w (Plain (instrs.Num ops.StoreFast n)) frames.old.calls frames.new.calls }
+    ensures long { (tables : Tables) (w : PlainWorld) → IsNext tables end frames.old.calls
+        → Steps tables w (Plain (instrs.Num ops.StoreFastN n)) frames.old.calls frames.new.calls }
+    ensures moved { (v : Item) → IsTop (slots.Value v) frames.old.calls → frames.new ≡ on_running (λ c. record c {
+      at = end;
+      slots = drop 1 c.slots;
+      locals = slice_set c.locals n (Some v);
+    }) frames.old }
 {
     let Slot::Value(v) = frames.pop() else {
         unreachable!();

@@ -13,7 +13,9 @@ use vm_frames::{Frames, Slot, moves_law};
 /// UNWIND_JUMP. The byte counts the entries that are left, and its highest bit says that an iterator is taken.
 pub fn unwind_jump(frames: &mut Frames, target: u32, byte: u8)
     requires { OfRunning (λ c. byte % 128 ≤ length c.entries) frames.old.calls }
-    ensures steps { (tables : Tables) (w : PlainWorld) (position : ℕ) → IsAt tables target position frames.old.calls → OfRunning (IsPlaced (view_of tables)) frames.old.calls → Steps tables w (Unwinds position byte) frames.old.calls frames.new.calls }
+    ensures steps { (tables : Tables) (w : PlainWorld) (position : ℕ) → IsAt tables target position frames.old.calls
+        → OfRunning (IsPlaced (view_of tables)) frames.old.calls
+        → Steps tables w (Unwinds position byte) frames.old.calls frames.new.calls }
     ensures moved { frames.new ≡ on_running (λ c. (jumped target (byte % 128) (nat_le 128 byte) c.entries c.slots c).call) frames.old }
 {
     let entries = byte % 128;

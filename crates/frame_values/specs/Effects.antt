@@ -31,7 +31,8 @@ module _ (texts : StrNo → Option (List ℕ)) (tuples : ConstNo → Option (Lis
   -- is that of the next one
   abbrev pub JumpSteps : (ℕ → Item) → (target end : ℕ) → (before behind : Heap Value ℕ) → (old new : List Call) → Result (Unit {0}) Stop → Type 0
   JumpSteps item target end before behind old new result =
-      (layout : Layout) (position : ℕ) → IsAt (tables_of layout) target position old → IsNext (tables_of layout) end old → Does (tables_of layout) (item position) 0 before behind old new result
+      (layout : Layout) (position : ℕ) → IsAt (tables_of layout) target position old → IsNext (tables_of layout) end old
+      → Does (tables_of layout) (item position) 0 before behind old new result
 
   -- what a stop tells is known
   abbrev pub IsKnownStop : Objects Value ℕ → Result (Unit {0}) Stop → Type 0

@@ -90,7 +90,8 @@ module _ (texts : StrNo → Option (List ℕ)) (tuples : ConstNo → Option (Lis
 
   -- `count` known values are put in the place of the top slot where the instruction is done, and where it stops the calls stay
   abbrev pub PutsValues : Objects Value ℕ → (end count : ℕ) → (old new : Calls) → Result (Unit {0}) Stop → Type 0
-  PutsValues objects end count old new (Ok done) = (vs : List Value) × (length vs ≡ count) × All (IsKnown texts tuples objects) vs × (new ≡ on_running (with_values end vs) old)
+  PutsValues objects end count old new (Ok done) = (vs : List Value) × (length vs ≡ count) × All (IsKnown texts tuples objects) vs
+      × (new ≡ on_running (with_values end vs) old)
   PutsValues objects end count old new (Err stop) = new ≡ old
 
   -- an iterator over a known value lies on top

@@ -26,7 +26,8 @@ pub fn load_attr<C: Constants>(
     requires name { IsSome (C.text_of consts.now name) }
     requires object { under C.Constants consts.now HasKnown arena.old.objects 0 frames.old.calls }
     requires all_told { TellsAll C.Constants consts.now arena.old }
-    ensures steps { under C.Constants consts.now Steps (Names ops.LoadAttr (or_nothing (C.text_of consts.now name))) 0 end arena.old arena.new frames.old.calls frames.new.calls result }
+    ensures steps { under C.Constants consts.now Steps
+        (Names ops.LoadAttr (or_nothing (C.text_of consts.now name))) 0 end arena.old arena.new frames.old.calls frames.new.calls result }
     ensures moved { under C.Constants consts.now Puts arena.new.objects (with_value end 1) frames.old frames.new result }
     ensures leaves { under C.Constants consts.now Leaves arena.old arena.new result }
 {
@@ -47,7 +48,8 @@ pub fn store_attr<C: Constants>(
     requires object { under C.Constants consts.now HasKnown arena.old.objects 0 frames.old.calls }
     requires value { under C.Constants consts.now HasKnown arena.old.objects 1 frames.old.calls }
     requires all_told { TellsAll C.Constants consts.now arena.old }
-    ensures steps { under C.Constants consts.now Steps (Names ops.StoreAttr (or_nothing (C.text_of consts.now name))) 0 end arena.old arena.new frames.old.calls frames.new.calls result }
+    ensures steps { under C.Constants consts.now Steps
+        (Names ops.StoreAttr (or_nothing (C.text_of consts.now name))) 0 end arena.old arena.new frames.old.calls frames.new.calls result }
     ensures moved { Changes (without end 2) frames.old frames.new result }
     ensures leaves { under C.Constants consts.now Leaves arena.old arena.new result }
 {
@@ -69,7 +71,8 @@ pub fn import_from<C: Constants>(
     requires name { IsSome (C.text_of consts.now name) }
     requires object { under C.Constants consts.now HasKnown arena.old.objects 0 frames.old.calls }
     requires all_told { TellsAll C.Constants consts.now arena.old }
-    ensures steps { under C.Constants consts.now Steps (Names ops.ImportFrom (or_nothing (C.text_of consts.now name))) 0 end arena.old arena.new frames.old.calls frames.new.calls result }
+    ensures steps { under C.Constants consts.now Steps
+        (Names ops.ImportFrom (or_nothing (C.text_of consts.now name))) 0 end arena.old arena.new frames.old.calls frames.new.calls result }
     ensures moved { under C.Constants consts.now Puts arena.new.objects (with_value end 0) frames.old frames.new result }
     ensures leaves { under C.Constants consts.now Leaves arena.old arena.new result }
 {
@@ -90,7 +93,8 @@ pub fn load_method<C: Constants>(
     requires name { IsSome (C.text_of consts.now name) }
     requires object { under C.Constants consts.now HasKnown arena.now.objects 0 frames.old.calls }
     requires all_told { TellsAll C.Constants consts.now arena.now }
-    ensures steps { under C.Constants consts.now Steps (Names ops.LoadMethod (or_nothing (C.text_of consts.now name))) 0 end arena.now arena.now frames.old.calls frames.new.calls result }
+    ensures steps { under C.Constants consts.now Steps
+        (Names ops.LoadMethod (or_nothing (C.text_of consts.now name))) 0 end arena.now arena.now frames.old.calls frames.new.calls result }
     ensures moved { under C.Constants consts.now PutsLooked arena.now.objects end frames.old frames.new result }
     ensures leaves { under C.Constants consts.now Leaves arena.now arena.now result }
 {

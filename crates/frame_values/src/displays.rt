@@ -29,7 +29,8 @@ pub fn build_tuple<C: Constants>(
     requires known { (slot : ℕ) → slot < length items.old → under C.Constants consts.now HasKnown arena.old.objects slot frames.old.calls }
     requires room { length items.old ≡ 0 → OfRunning (λ c. length c.slots < frames.old.slot_room) frames.old.calls }
     requires all_told { TellsAll C.Constants consts.now arena.old }
-    ensures steps { under C.Constants consts.now Steps (Plain (instrs.Num ops.BuildTuple (length items.old))) 0 end arena.old arena.new frames.old.calls frames.new.calls result }
+    ensures steps { under C.Constants consts.now Steps
+        (Plain (instrs.Num ops.BuildTuple (length items.old))) 0 end arena.old arena.new frames.old.calls frames.new.calls result }
     ensures moved { under C.Constants consts.now Puts arena.new.objects (with_value end (length items.old)) frames.old frames.new result }
     ensures leaves { under C.Constants consts.now Leaves arena.old arena.new result }
 {
@@ -50,7 +51,8 @@ pub fn build_list<C: Constants>(
     requires known { (slot : ℕ) → slot < length items.old → under C.Constants consts.now HasKnown arena.old.objects slot frames.old.calls }
     requires room { length items.old ≡ 0 → OfRunning (λ c. length c.slots < frames.old.slot_room) frames.old.calls }
     requires all_told { TellsAll C.Constants consts.now arena.old }
-    ensures steps { under C.Constants consts.now Steps (Plain (instrs.Num ops.BuildList (length items.old))) 0 end arena.old arena.new frames.old.calls frames.new.calls result }
+    ensures steps { under C.Constants consts.now Steps
+        (Plain (instrs.Num ops.BuildList (length items.old))) 0 end arena.old arena.new frames.old.calls frames.new.calls result }
     ensures moved { under C.Constants consts.now Puts arena.new.objects (with_value end (length items.old)) frames.old frames.new result }
     ensures leaves { under C.Constants consts.now Leaves arena.old arena.new result }
 {
@@ -69,7 +71,8 @@ pub fn build_map<C: Constants>(
 ) -> Result<(), Stop>
     requires room { OfRunning (λ c. length c.slots < frames.old.slot_room) frames.old.calls }
     requires all_told { TellsAll C.Constants consts.now arena.old }
-    ensures steps { under C.Constants consts.now Steps (Plain (instrs.Num ops.BuildMap pairs)) 0 end arena.old arena.new frames.old.calls frames.new.calls result }
+    ensures steps { under C.Constants consts.now Steps
+        (Plain (instrs.Num ops.BuildMap pairs)) 0 end arena.old arena.new frames.old.calls frames.new.calls result }
     ensures moved { under C.Constants consts.now Puts arena.new.objects (with_value end 0) frames.old frames.new result }
     ensures leaves { under C.Constants consts.now Leaves arena.old arena.new result }
 {
@@ -108,7 +111,8 @@ pub fn unpack_sequence<C: Constants>(
     requires sequence { under C.Constants consts.now HasKnown arena.old.objects 0 frames.old.calls }
     requires room { OfRunning (λ c. length c.slots + length items.old ≤ suc frames.old.slot_room) frames.old.calls }
     requires all_told { TellsAll C.Constants consts.now arena.old }
-    ensures steps { under C.Constants consts.now Steps (Plain (instrs.Num ops.UnpackSequence (length items.old))) 0 end arena.old arena.new frames.old.calls frames.new.calls result }
+    ensures steps { under C.Constants consts.now Steps
+        (Plain (instrs.Num ops.UnpackSequence (length items.old))) 0 end arena.old arena.new frames.old.calls frames.new.calls result }
     ensures moved { under C.Constants consts.now PutsValues arena.new.objects end (length items.old) frames.old frames.new result }
     ensures leaves { under C.Constants consts.now Leaves arena.old arena.new result }
 {

@@ -26,7 +26,8 @@ use prim_operators::{
 /// The truth of the top value, by which the tests jump.
 pub fn top_truth<C: Constants>(frames: &Frames, arena: &Arena, consts: &C) -> bool
     requires { under C.Constants consts.now HasKnown arena.now.objects 0 frames.now.calls }
-    ensures { (layout : Layout) (w : PlainWorld) → let tables = under C.Constants consts.now tables_of layout in Tests tables (world_of tables w arena.now) result frames.now.calls }
+    ensures { (layout : Layout) (w : PlainWorld)
+        → let tables = under C.Constants consts.now tables_of layout in Tests tables (world_of tables w arena.now) result frames.now.calls }
 {
     let v = value_at(frames, arena, consts, 0);
     truth(arena, consts, v)
@@ -42,7 +43,8 @@ pub fn get_iter_stack<C: Constants>(
     requires room { OfRunning (λ c. length c.slots + 3 < frames.old.slot_room + 1) frames.old.calls }
     requires iterable { under C.Constants consts.now HasKnown arena.now.objects 0 frames.old.calls }
     requires all_told { TellsAll C.Constants consts.now arena.now }
-    ensures steps { under C.Constants consts.now Steps (Plain (instrs.Plain ops.GetIterStack)) 0 end arena.now arena.now frames.old.calls frames.new.calls result }
+    ensures steps { under C.Constants consts.now Steps
+        (Plain (instrs.Plain ops.GetIterStack)) 0 end arena.now arena.now frames.old.calls frames.new.calls result }
     ensures moved { under C.Constants consts.now Puts arena.now.objects (with_iterator end) frames.old frames.new result }
     ensures leaves { under C.Constants consts.now Leaves arena.now arena.now result }
 {
@@ -103,8 +105,12 @@ pub fn for_iter<C: Constants>(
     requires room { OfRunning (λ c. length c.slots < frames.old.slot_room) frames.old.calls }
     requires all_told { TellsAll C.Constants consts.now arena.old }
     ensures steps { under C.Constants consts.now JumpSteps (Jumps ops.ForIter) target end arena.old arena.new frames.old.calls frames.new.calls result }
-    ensures item { let see = sight C.Constants consts.now in (over : Item) (at : ℕ) → IsIterator over at frames.old.calls → at < length_in (see.heap arena.old) (see.value over) → Puts see.texts see.tuples arena.new.objects (with_item end over (suc at)) frames.old frames.new result }
-    ensures ended { let see = sight C.Constants consts.now in (over : Item) (at : ℕ) → IsIterator over at frames.old.calls → length_in (see.heap arena.old) (see.value over) ≤ at → (result ≡ Ok tt) × (frames.new ≡ on_running (without target 4) frames.old) }
+    ensures item { let see = sight C.Constants consts.now in (over : Item) (at : ℕ) → IsIterator over at frames.old.calls
+        → at < length_in (see.heap arena.old) (see.value over)
+        → Puts see.texts see.tuples arena.new.objects (with_item end over (suc at)) frames.old frames.new result }
+    ensures ended { let see = sight C.Constants consts.now in (over : Item) (at : ℕ) → IsIterator over at frames.old.calls
+        → length_in (see.heap arena.old) (see.value over) ≤ at
+        → (result ≡ Ok tt) × (frames.new ≡ on_running (without target 4) frames.old) }
     ensures leaves { under C.Constants consts.now Leaves arena.old arena.new result }
 {
     let (over, at) = iterator_at(frames, arena, consts);

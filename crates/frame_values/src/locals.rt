@@ -46,7 +46,8 @@ pub fn delete_fast<C: Constants>(
 ) -> Result<(), Stop>
     requires local { under C.Constants consts.now HasLocal arena.now.objects n frames.old.calls }
     requires all_told { TellsAll C.Constants consts.now arena.now }
-    ensures steps { under C.Constants consts.now Steps (Plain (instrs.Num ops.DeleteFast n)) 0 end arena.now arena.now frames.old.calls frames.new.calls result }
+    ensures steps { under C.Constants consts.now Steps
+        (Plain (instrs.Num ops.DeleteFast n)) 0 end arena.now arena.now frames.old.calls frames.new.calls result }
     ensures moved { Changes (with_empty n end) frames.old frames.new result }
     ensures leaves { under C.Constants consts.now Leaves arena.now arena.now result }
 {

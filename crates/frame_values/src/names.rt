@@ -29,8 +29,10 @@ pub fn load_name<C: Constants>(
     requires names { OfRunning (λ c. IsA arena.now.objects ADict c.names.cell) frames.old.calls }
     requires name { IsSome (C.text_of consts.now name) }
     requires all_told { TellsAll C.Constants consts.now arena.now }
-    ensures name { under C.Constants consts.now Steps (Names ops.LoadName (or_nothing (C.text_of consts.now name))) 0 end arena.now arena.now frames.old.calls frames.new.calls result }
-    ensures global { under C.Constants consts.now Steps (Names ops.LoadGlobal (or_nothing (C.text_of consts.now name))) 0 end arena.now arena.now frames.old.calls frames.new.calls result }
+    ensures name { under C.Constants consts.now Steps
+        (Names ops.LoadName (or_nothing (C.text_of consts.now name))) 0 end arena.now arena.now frames.old.calls frames.new.calls result }
+    ensures global { under C.Constants consts.now Steps
+        (Names ops.LoadGlobal (or_nothing (C.text_of consts.now name))) 0 end arena.now arena.now frames.old.calls frames.new.calls result }
     ensures moved { under C.Constants consts.now Puts arena.now.objects (with_value end 0) frames.old frames.new result }
     ensures leaves { under C.Constants consts.now Leaves arena.now arena.now result }
 {
@@ -51,8 +53,10 @@ pub fn store_name<C: Constants>(
     requires name { IsSome (C.text_of consts.now name) }
     requires value { under C.Constants consts.now HasKnown arena.old.objects 0 frames.old.calls }
     requires all_told { TellsAll C.Constants consts.now arena.old }
-    ensures name { under C.Constants consts.now Steps (Names ops.StoreName (or_nothing (C.text_of consts.now name))) 0 end arena.old arena.new frames.old.calls frames.new.calls result }
-    ensures global { under C.Constants consts.now Steps (Names ops.StoreGlobal (or_nothing (C.text_of consts.now name))) 0 end arena.old arena.new frames.old.calls frames.new.calls result }
+    ensures name { under C.Constants consts.now Steps
+        (Names ops.StoreName (or_nothing (C.text_of consts.now name))) 0 end arena.old arena.new frames.old.calls frames.new.calls result }
+    ensures global { under C.Constants consts.now Steps
+        (Names ops.StoreGlobal (or_nothing (C.text_of consts.now name))) 0 end arena.old arena.new frames.old.calls frames.new.calls result }
     ensures moved { Changes (without end 1) frames.old frames.new result }
     ensures leaves { under C.Constants consts.now Leaves arena.old arena.new result }
 {
@@ -73,8 +77,11 @@ pub fn delete_name<C: Constants>(
     requires names { OfRunning (λ c. IsA arena.old.objects ADict c.names.cell) frames.old.calls }
     requires name { IsSome (C.text_of consts.now name) }
     requires all_told { TellsAll C.Constants consts.now arena.old }
-    ensures name { under C.Constants consts.now Steps (Names ops.DeleteName (or_nothing (C.text_of consts.now name))) 0 end arena.old arena.new frames.old.calls frames.new.calls result }
-    ensures global { under C.Constants consts.now Steps (Names ops.DeleteGlobal (or_nothing (C.text_of consts.now name))) 0 end arena.old arena.new frames.old.calls frames.new.calls result }
+    ensures name { under C.Constants consts.now Steps
+        (Names ops.DeleteName (or_nothing (C.text_of consts.now name))) 0 end arena.old arena.new frames.old.calls frames.new.calls result }
+    ensures global { under C.Constants consts.now Steps
+        (Names ops.DeleteGlobal (or_nothing (C.text_of consts.now name))) 0 end arena.old arena.new frames.old.calls frames.new.calls
+        result }
     ensures moved { Changes (without end 0) frames.old frames.new result }
     ensures leaves { under C.Constants consts.now Leaves arena.old arena.new result }
 {

@@ -76,7 +76,9 @@ fn visits_in_place<C: Constants>(
     requires right_leads { Leads arena.now.objects right }
     requires left_told { Tells C.Constants consts.now left }
     requires right_told { Tells C.Constants consts.now right }
-    ensures { let see = sight C.Constants consts.now in let outcome = in_place_of (see.heap arena.now) (plain_operator op) (see.value left) (see.value right) in result ≡ min outcome.visits most }
+    ensures { let see = sight C.Constants consts.now
+        in let outcome = in_place_of (see.heap arena.now) (plain_operator op) (see.value left) (see.value right) in result
+        ≡ min outcome.visits most }
 {
     match op {
         Operator::Add => visits_inplace_add(arena, consts, left, right, most),
@@ -125,7 +127,8 @@ fn visits_two<C: Constants>(
     requires left_told { Tells C.Constants consts.now left }
     requires right_told { Tells C.Constants consts.now right }
     requires all_told { TellsAll C.Constants consts.now arena.now }
-    ensures { let see = sight C.Constants consts.now in let outcome = meaning_of_two op (see.heap arena.now) (see.value left) (see.value right) in result ≡ min outcome.visits most }
+    ensures { let see = sight C.Constants consts.now
+        in let outcome = meaning_of_two op (see.heap arena.now) (see.value left) (see.value right) in result ≡ min outcome.visits most }
 {
     match op {
         TwoOperands::Order(sign) => visits_op_order(arena, consts, sign, left, right, most),
@@ -174,7 +177,11 @@ pub fn binary_op<C: Constants>(
     requires right { under C.Constants consts.now HasKnown arena.old.objects 0 frames.old.calls }
     requires left { under C.Constants consts.now HasKnown arena.old.objects 1 frames.old.calls }
     requires all_told { TellsAll C.Constants consts.now arena.old }
-    ensures steps { let see = sight C.Constants consts.now in (left right : Item) → HasValue 1 left frames.old.calls → HasValue 0 right frames.old.calls → Steps see.texts see.tuples (Plain (instrs.Binary number)) (visits_of (operator_at number) (see.heap arena.old) (see.value left) (see.value right)) end arena.old arena.new frames.old.calls frames.new.calls result }
+    ensures steps { let see = sight C.Constants consts.now in (left right : Item) → HasValue 1 left frames.old.calls
+        → HasValue 0 right frames.old.calls
+        → Steps see.texts see.tuples (Plain (instrs.Binary number))
+        (visits_of (operator_at number) (see.heap arena.old) (see.value left) (see.value right)) end arena.old arena.new frames.old.calls
+        frames.new.calls result }
     ensures moved { under C.Constants consts.now Puts arena.new.objects (with_value end 2) frames.old frames.new result }
     ensures leaves { under C.Constants consts.now Leaves arena.old arena.new result }
 {
@@ -199,7 +206,9 @@ pub fn visits_binary_op<C: Constants>(
     requires right { under C.Constants consts.now HasKnown arena.now.objects 0 frames.now.calls }
     requires left { under C.Constants consts.now HasKnown arena.now.objects 1 frames.now.calls }
     requires all_told { TellsAll C.Constants consts.now arena.now }
-    ensures { let see = sight C.Constants consts.now in (left right : Item) → HasValue 1 left frames.now.calls → HasValue 0 right frames.now.calls → result ≡ min (visits_of (operator_at number) (see.heap arena.now) (see.value left) (see.value right)) most }
+    ensures { let see = sight C.Constants consts.now in (left right : Item) → HasValue 1 left frames.now.calls
+        → HasValue 0 right frames.now.calls
+        → result ≡ min (visits_of (operator_at number) (see.heap arena.now) (see.value left) (see.value right)) most }
 {
     let Some(op) = two_operands(number) else {
         unreachable!();

@@ -23,7 +23,8 @@ pub fn load_subscr<C: Constants>(
     requires index { under C.Constants consts.now HasKnown arena.old.objects 0 frames.old.calls }
     requires object { under C.Constants consts.now HasKnown arena.old.objects 1 frames.old.calls }
     requires all_told { TellsAll C.Constants consts.now arena.old }
-    ensures steps { under C.Constants consts.now Steps (Plain (instrs.Plain ops.LoadSubscr)) 0 end arena.old arena.new frames.old.calls frames.new.calls result }
+    ensures steps { under C.Constants consts.now Steps
+        (Plain (instrs.Plain ops.LoadSubscr)) 0 end arena.old arena.new frames.old.calls frames.new.calls result }
     ensures moved { under C.Constants consts.now Puts arena.new.objects (with_value end 2) frames.old frames.new result }
     ensures leaves { under C.Constants consts.now Leaves arena.old arena.new result }
 {
@@ -44,7 +45,8 @@ pub fn store_subscr<C: Constants>(
     requires object { under C.Constants consts.now HasKnown arena.old.objects 1 frames.old.calls }
     requires value { under C.Constants consts.now HasKnown arena.old.objects 2 frames.old.calls }
     requires all_told { TellsAll C.Constants consts.now arena.old }
-    ensures steps { under C.Constants consts.now Steps (Plain (instrs.Plain ops.StoreSubscr)) 0 end arena.old arena.new frames.old.calls frames.new.calls result }
+    ensures steps { under C.Constants consts.now Steps
+        (Plain (instrs.Plain ops.StoreSubscr)) 0 end arena.old arena.new frames.old.calls frames.new.calls result }
     ensures moved { Changes (without end 3) frames.old frames.new result }
     ensures leaves { under C.Constants consts.now Leaves arena.old arena.new result }
 {
@@ -66,7 +68,8 @@ pub fn delete_subscr<C: Constants>(
     requires object { under C.Constants consts.now HasKnown arena.old.objects 1 frames.old.calls }
     requires no_value { HasNull 2 frames.old.calls }
     requires all_told { TellsAll C.Constants consts.now arena.old }
-    ensures steps { under C.Constants consts.now Steps (Plain (instrs.Plain ops.StoreSubscr)) 0 end arena.old arena.new frames.old.calls frames.new.calls result }
+    ensures steps { under C.Constants consts.now Steps
+        (Plain (instrs.Plain ops.StoreSubscr)) 0 end arena.old arena.new frames.old.calls frames.new.calls result }
     ensures moved { Changes (without end 3) frames.old frames.new result }
     ensures leaves { under C.Constants consts.now Leaves arena.old arena.new result }
 {

@@ -7,7 +7,7 @@ use Rattle.meant_files.specs.mpy_io.Ports.{PortView}
 use Rattle.library_files.specs.bc_library.Shelf.{Shelf}
 use Rattle.meant_files.specs.py_meaning.Program.{Program}
 use Rattle.meant_files.specs.meant_runs.Units.{AreUnits}
-use Rattle.image_commands.specs.mpy_compile.Compiled.{CompilesTo}
+use Rattle.file_commands.specs.mpy_compile.Compiled.{CompilesTo}
 use Rattle.library_files.specs.bc_library.mpy_tree.File.{IsFile}
 use Rattle.library_files.specs.bc_library.mpy_tree.Raw.{Module}
 use Rattle.library_files.specs.Loads.{Loaded, main_name}

@@ -16,8 +16,8 @@ use Rattle.meant_files.specs.Programs.{HoldsImageOf, IsImageOfSources, IsLibrary
 use Rattle.run_commands.specs.mpy_endings.declared.ending.Ending.TheVariants.{Done}
 use Rattle.run_commands.specs.command_files.Images.{HoldsImage}
 use Rattle.run_commands.specs.declared.ready.Ready.{Ready}
-use Rattle.image_commands.specs.Freeze.{Freezes}
-use Rattle.image_commands.specs.Migrate.{Migrates}
+use Rattle.file_commands.specs.Freeze.{Freezes}
+use Rattle.file_commands.specs.Migrate.{Migrates}
 use Rattle.meant_commands.specs.Meant.{HoldsProgram}
 use Rattle.run_commands.specs.Ready.{RunLibrary, not_read, of_file, of_image, begins_image}
 

@@ -1,5 +1,4 @@
 pub use Rattle.file_commands.proofs as file_commands_lemmas
-pub use Rattle.image_commands.proofs as image_commands_lemmas
 pub mod GoMeaning
 pub mod ImageMeaning
 pub mod Making

@@ -4,8 +4,8 @@ use Rattle.meant_files.specs.mpy_io.Files.{FileOf}
 use Rattle.library_files.specs.bc_library.mpy_tree.File.{IsFile}
 use Rattle.library_files.specs.bc_library.mpy_tree.Raw.{Module}
 use Rattle.meant_files.specs.py_meaning.Program.{Source, Unit, Units, Part, Parts}
-use Rattle.image_commands.specs.mpy_compile.Compiled.{CompilesTo}
-use Rattle.image_commands.specs.mpy_compile.Checked.{IsTranslation}
+use Rattle.file_commands.specs.mpy_compile.Compiled.{CompilesTo}
+use Rattle.file_commands.specs.mpy_compile.Checked.{IsTranslation}
 use Rattle.meant_files.specs.Readings.{IsReading}
 use Rattle.meant_files.specs.Built.{crossed, checked, merged, AreBuilt, last, next}
 use Rattle.run_commands.specs.mpy_endings.declared.ending.Ending.TheVariants.{Done}

@@ -6,7 +6,7 @@ use Rattle.library_files.specs.bc_library.mpy_tree.Raw.{Module}
 use Rattle.library_files.specs.bc_library.mpy_tree.File.{IsFile}
 use Rattle.meant_files.specs.pkg_paths.Finds.{NamedFile, first_there}
 use Rattle.meant_files.specs.pkg_paths.Paths.{candidates}
-use Rattle.image_commands.specs.mpy_compile.Compiled.{CompilesTo, IsFault}
+use Rattle.file_commands.specs.mpy_compile.Compiled.{CompilesTo, IsFault}
 use Rattle.library_files.specs.declared.entry.Entry.{Entry}
 use Rattle.library_files.specs.declared.entry.Entry.TheVariants as entries
 use Rattle.library_files.specs.declared.limit.UnacceptedSource.{UnacceptedSource}

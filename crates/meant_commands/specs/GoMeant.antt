@@ -7,7 +7,7 @@ use Rattle.meant_files.specs.mpy_io.Ports.{PortView}
 use Rattle.meant_files.specs.port_set.Calls.{Tell}
 use Rattle.meant_files.specs.port_set.Counts.{AreAccounted}
 use Rattle.meant_files.specs.py_meaning.Program.{Program}
-use Rattle.image_commands.specs.mpy_compile.Compiled.{CompilesTo}
+use Rattle.file_commands.specs.mpy_compile.Compiled.{CompilesTo}
 use Rattle.meant_files.specs.source_files.Sources.{stored}
 use Rattle.meant_files.specs.Sources.{IsProgramOfSources}
 use Rattle.meant_files.specs.Libraries.{AreCrossed}

@@ -1,5 +1,4 @@
 pub use Rattle.file_commands.specs as file_commands
-pub use Rattle.image_commands.specs as image_commands
 pub use Rattle.library_files.specs as library_files
 pub use Rattle.meant_files.specs.image_freeze
 pub use Rattle.meant_files.specs.source_files

@@ -12,7 +12,7 @@ ghost use Rattle.run_commands.specs.library_runs.Runs.{Sight};
 ghost use Rattle.meant_files.specs.source_files.Sources.{IsModuleOf, LoadsFromSources};
 ghost use Rattle.meant_commands.specs.Alike.{Tells, IsWholeRun, AreAlike};
 
-use image_commands::compile_law;
+use file_commands::compile_law;
 use library_files::imports_law;
 use mpy_reader::file_law;
 use run_commands::accounted_law;

@@ -5,9 +5,8 @@
 mod going;
 mod meant;
 
-pub use file_commands::{check, check_as, cross, dump, merge_files};
+pub use file_commands::{check, check_as, cross, dump, freeze, merge_files, migrate};
 pub use going::{run_law, sources_law};
-pub use image_commands::{freeze, migrate};
 pub use meant::{
     crossed_holds_law, go_means_law, holds_law, image_holds_law, makes_law, run_means_law,
 };

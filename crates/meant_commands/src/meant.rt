@@ -13,8 +13,8 @@ ghost use Rattle.run_commands.specs.mpy_endings.declared.ending.Ending.TheVarian
 ghost use Rattle.meant_files.specs.Sources.{IsProgramOfSources};
 ghost use Rattle.run_commands.specs.Base.{base_of};
 ghost use Rattle.run_commands.specs.declared.ready.Ready.{Ready};
-ghost use Rattle.image_commands.specs.Freeze.{Freezes};
-ghost use Rattle.image_commands.specs.Migrate.{Migrates};
+ghost use Rattle.file_commands.specs.Freeze.{Freezes};
+ghost use Rattle.file_commands.specs.Migrate.{Migrates};
 ghost use Rattle.meant_commands.specs.GoMeant.{GoMeans, HoldsCrossed};
 ghost use Rattle.meant_commands.specs.Made.{HoldsMade, HoldMade, MakesOfSource, MakesOfUnits};
 ghost use Rattle.meant_commands.specs.Meant.{HoldsBuilt, HoldsProgram, RunMeans};

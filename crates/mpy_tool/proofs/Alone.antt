@@ -18,10 +18,10 @@ use Rattle.meant_commands.specs.file_commands.Dump.{Dumps}
 use Rattle.meant_commands.specs.file_commands.Merge.{Merges}
 use Rattle.meant_commands.proofs.file_commands_lemmas.Crossed.{crosses_only}
 use Rattle.meant_commands.proofs.file_commands_lemmas.Merged.{merges_only}
-use Rattle.meant_commands.specs.image_commands.Freeze.{Freezes}
-use Rattle.meant_commands.specs.image_commands.Migrate.{Migrates}
-use Rattle.meant_commands.proofs.image_commands_lemmas.Freezing.{freezes_only}
-use Rattle.meant_commands.proofs.image_commands_lemmas.Migrating.{migrates_only}
+use Rattle.meant_commands.specs.file_commands.Freeze.{Freezes}
+use Rattle.meant_commands.specs.file_commands.Migrate.{Migrates}
+use Rattle.meant_commands.proofs.file_commands_lemmas.Freezing.{freezes_only}
+use Rattle.meant_commands.proofs.file_commands_lemmas.Migrating.{migrates_only}
 use Rattle.board_command.specs.Boards.{Boards}
 use Rattle.mpy_tool.specs.Below.{image_version}
 use Rattle.mpy_tool.specs.Doing.{DoesBy}

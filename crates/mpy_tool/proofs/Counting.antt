@@ -5,10 +5,10 @@ use Rattle.mpy_words.specs.declared.order.Command.{Command}
 use Rattle.mpy_words.specs.declared.order.Command.TheVariants.{Go, Check, CheckAs, Dump, Cross, Merge, Freeze, Migrate, Run, Board, Stress}
 use Rattle.mpy_words.specs.declared.order.Order.{Order}
 use Rattle.mpy_words.specs.Words.{first_name, saved_name}
-use Rattle.stress_command.specs.run_commands.Run.{room_of}
-use Rattle.stress_command.specs.run_commands.Save.{EndsRunTo}
+use Rattle.run_commands.specs.Run.{room_of}
+use Rattle.run_commands.specs.Save.{EndsRunTo}
 use Rattle.mpy_endings.proofs.Statuses.{folder_stays, out_stays}
-use Rattle.stress_command.specs.Stress.{EndsStress}
+use Rattle.run_commands.specs.Stress.{EndsStress}
 use Rattle.mpy_tool.specs.Below.{Based}
 use Rattle.mpy_tool.specs.Call.{Call, LeavesCounts, ShowsPorts}
 use Rattle.mpy_tool.specs.Doing.{ActsBy, Finishes, LibraryBy, RunsBy, ObeysBy}

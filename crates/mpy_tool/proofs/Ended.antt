@@ -16,8 +16,8 @@ use Rattle.meant_commands.specs.file_commands.CheckAs.{ChecksAs}
 use Rattle.meant_commands.specs.file_commands.Cross.{Crosses}
 use Rattle.meant_commands.specs.file_commands.Dump.{Dumps}
 use Rattle.meant_commands.specs.file_commands.Merge.{Merges}
-use Rattle.meant_commands.specs.image_commands.Freeze.{Freezes}
-use Rattle.meant_commands.specs.image_commands.Migrate.{Migrates}
+use Rattle.meant_commands.specs.file_commands.Freeze.{Freezes}
+use Rattle.meant_commands.specs.file_commands.Migrate.{Migrates}
 use Rattle.board_command.specs.Boards.{Boards}
 use Rattle.mpy_tool.specs.Below.{image_version}
 use Rattle.mpy_tool.specs.Call.{Call, Shows}

@@ -6,10 +6,10 @@ use Rattle.mpy_io.specs.Files.{FileOf}
 use Rattle.mpy_words.specs.Words.{first_name, saved_name}
 use Rattle.mpy_endings.specs.declared.ending.Ending.{Ending}
 use Rattle.mpy_endings.specs.declared.ending.Ending.TheVariants.{Done, Unaccepted, Unread, Unverified, Unmerged, Unopened, Unfrozen, Unboarded, Different, Stopped, ReadFault, WriteFault, Unwritten, NoMemory, Absent}
-use Rattle.stress_command.specs.run_commands.declared.ready.Ready.{Ready}
-use Rattle.stress_command.specs.run_commands.library_runs.Runs.{Sight}
-use Rattle.stress_command.specs.run_commands.Save.{RunsTo, place_to}
-use Rattle.stress_command.proofs.run_commands_lemmas.Suspending.{saving_only, word_to}
+use Rattle.run_commands.specs.declared.ready.Ready.{Ready}
+use Rattle.run_commands.specs.library_runs.Runs.{Sight}
+use Rattle.run_commands.specs.Save.{RunsTo, place_to}
+use Rattle.run_commands.proofs.Suspending.{saving_only, word_to}
 use Rattle.mpy_tool.specs.Order.{ChangesSaved}
 
 -- the word that the line names

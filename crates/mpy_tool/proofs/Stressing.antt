@@ -9,10 +9,10 @@ use Rattle.mpy_endings.specs.declared.ending.Stop.TheVariants.{Past, LibraryFaul
 use Rattle.mpy_endings.specs.Ending.{status_of, IsRunStatus}
 use Rattle.mpy_endings.proofs.Statuses.{none_unsaved}
 use Rattle.board_command.specs.command_files.Outside.{Outside}
-use Rattle.stress_command.specs.run_commands.Ready.{GoLibrary}
-use Rattle.stress_command.specs.run_commands.Run.{EndsRun, IsUnloaded, Runs, sight_in}
+use Rattle.run_commands.specs.Ready.{GoLibrary}
+use Rattle.run_commands.specs.Run.{EndsRun, IsUnloaded, Runs, sight_in}
 use Rattle.meant_commands.specs.GoMeant.{GoMeans}
-use Rattle.stress_command.specs.Stress.{EndsStress, Ran, beside, stress_name}
+use Rattle.run_commands.specs.Stress.{EndsStress, Ran, beside, stress_name}
 use Rattle.mpy_tool.specs.Making.{MeansMade, StressMeans}
 
 -- the statuses of a run, and that of a sink that failed

@@ -16,14 +16,14 @@ use Rattle.meant_commands.specs.file_commands.CheckAs.{ChecksAs}
 use Rattle.meant_commands.specs.file_commands.Cross.{Crosses}
 use Rattle.meant_commands.specs.file_commands.Dump.{Dumps}
 use Rattle.meant_commands.specs.file_commands.Merge.{Merges}
-use Rattle.stress_command.specs.run_commands.Ready.{GoLibrary, RunLibrary}
-use Rattle.stress_command.specs.run_commands.Run.{EndsRun, room_of}
-use Rattle.stress_command.specs.run_commands.Save.{EndsRunTo}
+use Rattle.run_commands.specs.Ready.{GoLibrary, RunLibrary}
+use Rattle.run_commands.specs.Run.{EndsRun, room_of}
+use Rattle.run_commands.specs.Save.{EndsRunTo}
 use Rattle.meant_commands.specs.Meant.{Libraries}
-use Rattle.meant_commands.specs.image_commands.Freeze.{Freezes}
-use Rattle.meant_commands.specs.image_commands.Migrate.{Migrates}
+use Rattle.meant_commands.specs.file_commands.Freeze.{Freezes}
+use Rattle.meant_commands.specs.file_commands.Migrate.{Migrates}
 use Rattle.board_command.specs.Boards.{Boards}
-use Rattle.stress_command.specs.Stress.{EndsStress}
+use Rattle.run_commands.specs.Stress.{EndsStress}
 use Rattle.mpy_tool.specs.Call.{Call, Shows, ShowsPorts}
 use Rattle.mpy_tool.specs.Below.{Based, image_version}
 use Rattle.mpy_tool.specs.Order.{base_by, save_by}

@@ -9,7 +9,7 @@ ghost use Rattle.mpy_endings.specs.declared.ending.Ending.TheVariants.{Done};
 ghost use Rattle.mpy_endings.specs.Ending.{IsRunStatus, is_folder_fault, is_out_fault};
 ghost use Rattle.board_command.specs.board_files.Files.{KeepsOthers};
 ghost use Rattle.board_command.specs.Boards.{Boards};
-ghost use Rattle.meant_commands.specs.image_commands.Freeze.{Freezes};
+ghost use Rattle.meant_commands.specs.file_commands.Freeze.{Freezes};
 ghost use Rattle.mpy_tool.specs.Below as spec;
 ghost use Rattle.mpy_tool.specs.Below.{MayLieBelow, library_below};
 ghost use Rattle.mpy_tool.specs.Call.{call_of, texts};

@@ -11,11 +11,11 @@ ghost use Rattle.mpy_endings.specs.declared.ending.Ending.TheVariants.{Stopped};
 ghost use Rattle.mpy_endings.specs.declared.ending.Stop.TheVariants.{Unsaved};
 ghost use Rattle.mpy_endings.specs.Ending.{IsRunStatus, is_folder_fault, is_out_fault, is_said, status_of};
 ghost use Rattle.mpy_endings.specs.Line.{Says};
-ghost use Rattle.stress_command.specs.run_commands.library_runs.Runs.{sight};
+ghost use Rattle.run_commands.specs.library_runs.Runs.{sight};
 ghost use Rattle.board_command.specs.command_files.Opened.{failed_in};
-ghost use Rattle.stress_command.specs.run_commands.Run.{IsUnloaded, room_of};
-ghost use Rattle.stress_command.specs.run_commands.Save.{RunsTo, is_unwritten, place_to};
-ghost use Rattle.stress_command.specs.run_commands.Ready.{RunLibrary};
+ghost use Rattle.run_commands.specs.Run.{IsUnloaded, room_of};
+ghost use Rattle.run_commands.specs.Save.{RunsTo, is_unwritten, place_to};
+ghost use Rattle.run_commands.specs.Ready.{RunLibrary};
 ghost use Rattle.mpy_tool.specs.Below.{MayLieBelow, library_below};
 ghost use Rattle.mpy_tool.specs.Call.{call_of, texts};
 ghost use Rattle.mpy_tool.specs.Doing.{LibraryBy, RunsOrSaves};
@@ -28,8 +28,8 @@ use mpy_base::{NoMemory, Room};
 use mpy_endings::{Ended, Ending, main_name, say_ending, word_at};
 use mpy_io::{Folder, Port, Sink};
 use mpy_words::{Command, Order};
+use run_commands::{Ready, run_loaded, run_ready, run_saving, source_ready};
 use std::alloc::Global;
-use stress_command::{Ready, run_loaded, run_ready, run_saving, source_ready};
 
 /// The library of the file of this name, an image over the library of a base, if one is ordered, or what keeps it from being run.
 fn ready_below<F: Folder>(

@@ -29,7 +29,8 @@ fn set_key<C: Constants>(
     requires leads { Leads arena.old.objects v }
     requires told { Tells C.Constants consts.now v }
     requires all_told { TellsAll C.Constants consts.now arena.old }
-    ensures { Does C.Constants consts.now arena.old arena.new result (λ heap see. let key = see.value key in with_key_of heap key (put_pair_of heap d.cell key (see.value v))) }
+    ensures { Does C.Constants consts.now arena.old arena.new result (λ heap see. let key = see.value key
+        in with_key_of heap key (put_pair_of heap d.cell key (see.value v))) }
 {
     if !is_key(arena, key) {
         return Err(Stop::Raises(Fault::UnsupportedOne {
@@ -54,7 +55,8 @@ fn set_place<C: Constants>(
     requires leads { Leads arena.old.objects v }
     requires told { Tells C.Constants consts.now v }
     requires all_told { TellsAll C.Constants consts.now arena.old }
-    ensures { Does C.Constants consts.now arena.old arena.new result (λ heap see. let items = map see.value (items_at arena.old l.cell) in at_place heap (At l.cell) (see.value index) (λ at. gives Nil (with_list heap l.cell (slice_set items at (see.value v))))) }
+    ensures { Does C.Constants consts.now arena.old arena.new result (λ heap see. let items = map see.value (items_at arena.old l.cell)
+        in at_place heap (At l.cell) (see.value index) (λ at. gives Nil (with_list heap l.cell (slice_set items at (see.value v))))) }
 {
     items_law(arena, consts, Value::List(l));
     match place_of(arena, consts, Value::List(l), index) {

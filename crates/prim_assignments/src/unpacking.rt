@@ -38,7 +38,9 @@ fn unpack_letters<C: Constants>(
     requires told { Tells C.Constants consts.now s }
     requires all_told { TellsAll C.Constants consts.now arena.old }
     requires count { length slots.old ≡ length (spelled (C.text_of consts.now) arena.old s) }
-    ensures outcome { let see = sight C.Constants consts.now in FillsSlots see.texts see.tuples arena.old arena.new slots.new result (unpack_of (see.heap arena.old) (length slots.old) (see.value s)) }
+    ensures outcome { let see = sight C.Constants consts.now
+        in FillsSlots see.texts see.tuples arena.old arena.new slots.new result
+        (unpack_of (see.heap arena.old) (length slots.old) (see.value s)) }
     ensures count { length slots.new ≡ length slots.old }
     ensures unchanged { OnErr result (slots.new ≡ slots.old) }
 {
@@ -80,7 +82,9 @@ fn unpack_items<C: Constants>(
     requires all_told { TellsAll C.Constants consts.now arena.old }
     requires iterable { let see = sight C.Constants consts.now in IsSome (items_in (see.heap arena.old) (see.value over)) }
     requires count { let see = sight C.Constants consts.now in length slots.old ≡ length_in (see.heap arena.old) (see.value over) }
-    ensures outcome { let see = sight C.Constants consts.now in FillsSlots see.texts see.tuples arena.old arena.new slots.new result (unpack_of (see.heap arena.old) (length slots.old) (see.value over)) }
+    ensures outcome { let see = sight C.Constants consts.now
+        in FillsSlots see.texts see.tuples arena.old arena.new slots.new result
+        (unpack_of (see.heap arena.old) (length slots.old) (see.value over)) }
     ensures count { length slots.new ≡ length slots.old }
     ensures unchanged { OnErr result (slots.new ≡ slots.old) }
 {
@@ -120,7 +124,9 @@ fn unpack_iterable<C: Constants>(
     requires told { Tells C.Constants consts.now over }
     requires all_told { TellsAll C.Constants consts.now arena.old }
     requires iterable { let see = sight C.Constants consts.now in IsSome (items_in (see.heap arena.old) (see.value over)) }
-    ensures outcome { let see = sight C.Constants consts.now in FillsSlots see.texts see.tuples arena.old arena.new slots.new result (unpack_of (see.heap arena.old) (length slots.old) (see.value over)) }
+    ensures outcome { let see = sight C.Constants consts.now
+        in FillsSlots see.texts see.tuples arena.old arena.new slots.new result
+        (unpack_of (see.heap arena.old) (length slots.old) (see.value over)) }
     ensures count { length slots.new ≡ length slots.old }
     ensures unchanged { OnErr result (slots.new ≡ slots.old) }
 {
@@ -147,7 +153,9 @@ pub fn unpack<C: Constants>(
     requires leads { Leads arena.old.objects over }
     requires told { Tells C.Constants consts.now over }
     requires all_told { TellsAll C.Constants consts.now arena.old }
-    ensures outcome { let see = sight C.Constants consts.now in FillsSlots see.texts see.tuples arena.old arena.new slots.new result (unpack_of (see.heap arena.old) (length slots.old) (see.value over)) }
+    ensures outcome { let see = sight C.Constants consts.now
+        in FillsSlots see.texts see.tuples arena.old arena.new slots.new result
+        (unpack_of (see.heap arena.old) (length slots.old) (see.value over)) }
     ensures count { length slots.new ≡ length slots.old }
     ensures unchanged { OnErr result (slots.new ≡ slots.old) }
 {

@@ -18,9 +18,12 @@ use Rattle.prim_operators.specs.prim_faults.Faults.{plain_fault, IsKnownFault}
 pub record IsRefusal (counts : Counts) (args : List Value) (keys : List (Value × Value)) (fault : Fault) : Type 0 where
   pub known : (texts : StrNo → Option (List ℕ)) (tuples : ConstNo → Option (List Value)) (heap : Heap Value ℕ) → IsKnownFault texts tuples heap.objects fault
   pub raised : (texts : StrNo → Option (List ℕ)) (tuples : ConstNo → Option (List Value)) (heap : Heap Value ℕ) (b : Builtin) → counts_of b ≡ counts
-      → call (plain_heap texts tuples heap) b (map (plain texts tuples) args) (map (plain_pair texts tuples) keys) ≡ raises (plain_fault texts tuples heap fault) (plain_heap texts tuples heap)
-  pub method_raised : (texts : StrNo → Option (List ℕ)) (tuples : ConstNo → Option (List Value)) (heap : Heap Value ℕ) (method : Builtin) (object : Val) → counts_of method ≡ counts
-      → call_method (plain_heap texts tuples heap) method object (map (plain texts tuples) args) (map (plain_pair texts tuples) keys) ≡ raises (plain_fault texts tuples heap fault) (plain_heap texts tuples heap)
+      → call (plain_heap texts tuples heap) b (map (plain texts tuples) args) (map (plain_pair texts tuples) keys)
+      ≡ raises (plain_fault texts tuples heap fault) (plain_heap texts tuples heap)
+  pub method_raised : (texts : StrNo → Option (List ℕ)) (tuples : ConstNo
+      → Option (List Value)) (heap : Heap Value ℕ) (method : Builtin) (object : Val) → counts_of method ≡ counts
+      → call_method (plain_heap texts tuples heap) method object (map (plain texts tuples) args) (map (plain_pair texts tuples) keys)
+      ≡ raises (plain_fault texts tuples heap fault) (plain_heap texts tuples heap)
 
 -- the fault of fewer arguments than the least count, or of more than the most
 abbrev pub IsMiscount : (least most given : ℕ) → Fault → Type 0

@@ -94,7 +94,8 @@ fn with_stop_and_step<C: Constants>(
     requires stop_leads { Leads arena.old.objects stop }
     requires step_leads { Leads arena.old.objects step }
     requires all_told { TellsAll C.Constants consts.now arena.old }
-    ensures { Does C.Constants consts.now arena.old arena.new result (λ heap see. with_number heap (see.value stop) (λ y. with_number heap (see.value step) (λ w. range_from heap start y w))) }
+    ensures { Does C.Constants consts.now arena.old arena.new result
+        (λ heap see. with_number heap (see.value stop) (λ y. with_number heap (see.value step) (λ w. range_from heap start y w))) }
 {
     match number_of(arena, stop) {
         Ok(z) => with_step(arena, consts, start, z, step),
@@ -114,7 +115,9 @@ fn with_all<C: Constants>(
     requires stop_leads { Leads arena.old.objects stop }
     requires step_leads { Leads arena.old.objects step }
     requires all_told { TellsAll C.Constants consts.now arena.old }
-    ensures { Does C.Constants consts.now arena.old arena.new result (λ heap see. with_number heap (see.value start) (λ x. with_number heap (see.value stop) (λ y. with_number heap (see.value step) (λ w. range_from heap x y w)))) }
+    ensures { Does C.Constants consts.now arena.old arena.new result
+        (λ heap see. with_number heap (see.value start)
+        (λ x. with_number heap (see.value stop) (λ y. with_number heap (see.value step) (λ w. range_from heap x y w)))) }
 {
     match number_of(arena, start) {
         Ok(z) => with_stop_and_step(arena, consts, z, stop, step),
@@ -150,7 +153,8 @@ fn with_start_and_stop<C: Constants>(
     requires start_leads { Leads arena.old.objects start }
     requires stop_leads { Leads arena.old.objects stop }
     requires all_told { TellsAll C.Constants consts.now arena.old }
-    ensures { Does C.Constants consts.now arena.old arena.new result (λ heap see. with_number heap (see.value start) (λ x. with_number heap (see.value stop) (λ y. range_from heap x y (pos 1)))) }
+    ensures { Does C.Constants consts.now arena.old arena.new result
+        (λ heap see. with_number heap (see.value start) (λ x. with_number heap (see.value stop) (λ y. range_from heap x y (pos 1)))) }
 {
     match number_of(arena, start) {
         Ok(z) => with_stop(arena, consts, z, stop),

@@ -58,7 +58,8 @@ IsKnownCall texts tuples objects (Ok v) = IsKnownAnswer texts tuples objects (Ok
 IsKnownCall texts tuples objects (Err (calls.Stops stop)) = IsKnownAnswer texts tuples objects (Err stop)
 IsKnownCall texts tuples objects (Err (calls.Out failed)) = Unit {0}
 
-module _ {S : Type 0} (told : S → Option (List ℕ)) (count : S → ℕ) (texts : StrNo → Option (List ℕ)) (tuples : ConstNo → Option (List Value)) (old new : Seen S) (args : List Value) (keys : List (Value × Value)) (result : Result Value CallStop) where
+module _ {S : Type 0} (told : S → Option (List ℕ)) (count : S → ℕ) (texts : StrNo → Option (List ℕ)) (tuples : ConstNo
+    → Option (List Value)) (old new : Seen S) (args : List Value) (keys : List (Value × Value)) (result : Result Value CallStop) where
   -- the heap before the call, as the meaning has it
   abbrev pub heap_of : PlainHeap
   heap_of = plain_heap texts tuples old.heap
@@ -104,7 +105,8 @@ module _ {S : Type 0} (told : S → Option (List ℕ)) (count : S → ℕ) (text
 
   -- it counts the ports, and does nothing else. No port fails
   pub record CountsPorts : Type 0 where
-    pub does : Answers as_call result (λ r. (contents : List PortState) → Tell old.ports contents → IsPortOutcome texts tuples old.heap new.ports r (call_port heap_of contents builtins.PortCount plain_args plain_keys))
+    pub does : Answers as_call result (λ r. (contents : List PortState) → Tell old.ports contents
+        → IsPortOutcome texts tuples old.heap new.ports r (call_port heap_of contents builtins.PortCount plain_args plain_keys))
     pub heap : new.heap ≡ old.heap
     pub out : new.out ≡ old.out
     pub ports : new.ports ≡ old.ports

@@ -32,7 +32,9 @@ fn complete<C: Constants>(
     requires known_slots { under C.Constants consts.now AreKnown arena.now.objects slots.old }
     requires defaults { Knows C.Constants consts.now arena.now defaults }
     requires all_told { TellsAll C.Constants consts.now arena.now }
-    ensures complete { let see = sight C.Constants consts.now in plain_bound see.texts see.tuples arena.now slots.new result ≡ all_filled (length slots.old - given) (default_items (shown (see.heap arena.now) (see.value defaults))) (Ok (plain_slots see.texts see.tuples slots.old)) }
+    ensures complete { let see = sight C.Constants consts.now in plain_bound see.texts see.tuples arena.now slots.new result
+        ≡ all_filled (length slots.old - given) (default_items (shown (see.heap arena.now) (see.value defaults)))
+        (Ok (plain_slots see.texts see.tuples slots.old)) }
     ensures known { under C.Constants consts.now IsKnownBound arena.now.objects slots.new result }
 {
     let before = slots.len().saturating_sub(given as usize);
@@ -61,7 +63,9 @@ fn bind_given<C: Constants>(
     requires known { KnowsAll C.Constants consts.now arena.now args.now }
     requires known_keys { KnowsPairs C.Constants consts.now arena.now keys.now }
     requires all_told { TellsAll C.Constants consts.now arena.now }
-    ensures bound { let see = sight C.Constants consts.now in plain_bound see.texts see.tuples arena.now slots.new result ≡ bound (see.heap arena.now) (map (name_text see.texts) params.entry.names.now) params.entry.given (see.value params.entry.defaults) (map see.value args.now) (map see.pair keys.now) }
+    ensures bound { let see = sight C.Constants consts.now in plain_bound see.texts see.tuples arena.now slots.new result
+        ≡ bound (see.heap arena.now) (map (name_text see.texts) params.entry.names.now) params.entry.given
+        (see.value params.entry.defaults) (map see.value args.now) (map see.pair keys.now) }
     ensures known { under C.Constants consts.now IsKnownBound arena.now.objects slots.new result }
 {
     if args.len() > params.names.len() {
@@ -94,7 +98,10 @@ pub fn bind<C: Constants>(
     requires known { KnowsAll C.Constants consts.now arena.now args.now }
     requires known_keys { KnowsPairs C.Constants consts.now arena.now keys.now }
     requires all_told { TellsAll C.Constants consts.now arena.now }
-    ensures bound { let see = sight C.Constants consts.now in IsBound see.texts see.tuples arena.now slots.new result (λ w. bind_of w (map (name_text see.texts) params.entry.names.now) params.entry.given (see.value params.entry.defaults) (map see.value args.now) (map see.pair keys.now)) }
+    ensures bound { let see = sight C.Constants consts.now
+        in IsBound see.texts see.tuples arena.now slots.new result
+        (λ w. bind_of w (map (name_text see.texts) params.entry.names.now) params.entry.given (see.value params.entry.defaults)
+        (map see.value args.now) (map see.pair keys.now)) }
     ensures known { under C.Constants consts.now IsKnownBound arena.now.objects slots.new result }
 {
     bind_given(arena, consts, params, args, keys, slots)

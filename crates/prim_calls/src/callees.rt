@@ -54,7 +54,9 @@ fn function_of<C: Constants>(arena: &Arena, _consts: &C, f: FunNo) -> Function
 pub fn callee_of<C: Constants>(arena: &Arena, _consts: &C, v: Value) -> Callee
     requires known { Knows C.Constants _consts.now arena.now v }
     requires all_told { TellsAll C.Constants _consts.now arena.now }
-    ensures callee { let see = sight C.Constants _consts.now in (w : PlainWorld) → plain_callee see.texts see.tuples (world_over see.texts see.tuples w arena.now) result ≡ callee_in (world_over see.texts see.tuples w arena.now) (see.value v) }
+    ensures callee { let see = sight C.Constants _consts.now in (w : PlainWorld)
+        → plain_callee see.texts see.tuples (world_over see.texts see.tuples w arena.now) result
+        ≡ callee_in (world_over see.texts see.tuples w arena.now) (see.value v) }
     ensures known { under C.Constants _consts.now IsKnownCallee arena.now.objects result }
 {
     match v {

@@ -66,7 +66,15 @@ pub fn call_builtin<C: Constants, S: Sink, P: Port>(
     requires known { KnowsAll C.Constants consts.now arena.old args.now }
     requires known_keys { KnowsPairs C.Constants consts.now arena.old keys.now }
     requires all_told { TellsAll C.Constants consts.now arena.old }
-    ensures call { IsCall S.told S.count (C.text_of consts.now) (C.items_of consts.now) (record { heap = arena.old; out = out.old; ports = map P.seen ports.old }) (record { heap = arena.new; out = out.new; ports = map P.seen ports.new }) args.now keys.now result b }
+    ensures call { IsCall S.told S.count (C.text_of consts.now) (C.items_of consts.now) (record {
+      heap = arena.old;
+      out = out.old;
+      ports = map P.seen ports.old;
+    }) (record {
+      heap = arena.new;
+      out = out.new;
+      ports = map P.seen ports.new;
+    }) args.now keys.now result b }
     ensures known { under C.Constants consts.now IsKnownCall arena.new.objects result }
     ensures later { Later arena.old.objects arena.new.objects }
     ensures all_told { TellsAll C.Constants consts.now arena.new }

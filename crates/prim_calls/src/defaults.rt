@@ -16,7 +16,8 @@ use prim_walks::{Look, look_at};
 fn default_at<C: Constants>(arena: &Arena, consts: &C, defaults: Value, at: u32) -> Option<Value>
     requires defaults { Knows C.Constants consts.now arena.now defaults }
     requires all_told { TellsAll C.Constants consts.now arena.now }
-    ensures default { let see = sight C.Constants consts.now in plain_slot see.texts see.tuples result ≡ slice_get (default_items (shown (see.heap arena.now) (see.value defaults))) at }
+    ensures default { let see = sight C.Constants consts.now in plain_slot see.texts see.tuples result
+        ≡ slice_get (default_items (shown (see.heap arena.now) (see.value defaults))) at }
     ensures known { IfSome result (Knows C.Constants consts.now arena.now) }
 {
     match look_at(arena, consts, defaults) {
@@ -42,7 +43,9 @@ fn or_default<C: Constants>(
     requires slot { IfSome slot (Knows C.Constants consts.now arena.now) }
     requires defaults { Knows C.Constants consts.now arena.now defaults }
     requires all_told { TellsAll C.Constants consts.now arena.now }
-    ensures value { let see = sight C.Constants consts.now in plain_slot see.texts see.tuples result ≡ option_or (plain_slot see.texts see.tuples slot) (slice_get (default_items (shown (see.heap arena.now) (see.value defaults))) at) }
+    ensures value { let see = sight C.Constants consts.now in plain_slot see.texts see.tuples result
+        ≡ option_or (plain_slot see.texts see.tuples slot)
+        (slice_get (default_items (shown (see.heap arena.now) (see.value defaults))) at) }
     ensures known { IfSome result (Knows C.Constants consts.now arena.now) }
 {
     match slot {
@@ -64,7 +67,8 @@ pub(crate) fn put_defaults<C: Constants>(
     requires known_slots { under C.Constants consts.now AreKnown arena.now.objects slots.old }
     requires defaults { Knows C.Constants consts.now arena.now defaults }
     requires all_told { TellsAll C.Constants consts.now arena.now }
-    ensures put { let see = sight C.Constants consts.now in plain_slots see.texts see.tuples slots.new ≡ last_slots before (plain_slots see.texts see.tuples slots.old) (default_items (shown (see.heap arena.now) (see.value defaults))) }
+    ensures put { let see = sight C.Constants consts.now in plain_slots see.texts see.tuples slots.new
+        ≡ last_slots before (plain_slots see.texts see.tuples slots.old) (default_items (shown (see.heap arena.now) (see.value defaults))) }
     ensures known { under C.Constants consts.now AreKnown arena.now.objects slots.new }
 {
     for at in before..slots.len() {

@@ -61,7 +61,9 @@ fn fill_slot<C: Constants>(
     requires known_slots { under C.Constants _consts.now AreKnown arena.now.objects slots.old }
     requires name { KnowsStr C.Constants _consts.now arena.now name }
     requires value { Knows C.Constants _consts.now arena.now v }
-    ensures filled { let see = sight C.Constants _consts.now in plain_bound see.texts see.tuples arena.now slots.new result ≡ filled (plain_slots see.texts see.tuples slots.old) at (see.bytes arena.now name) (see.value v) (option_and_then (λ old. old) (slice_get (plain_slots see.texts see.tuples slots.old) at)) }
+    ensures filled { let see = sight C.Constants _consts.now in plain_bound see.texts see.tuples arena.now slots.new result
+        ≡ filled (plain_slots see.texts see.tuples slots.old) at (see.bytes arena.now name) (see.value v)
+        (option_and_then (λ old. old) (slice_get (plain_slots see.texts see.tuples slots.old) at)) }
     ensures known { under C.Constants _consts.now IsKnownBound arena.now.objects slots.new result }
 {
     match slot_at(slots, at) {
@@ -86,7 +88,9 @@ fn put_keyword<C: Constants>(
     requires known_slots { under C.Constants consts.now AreKnown arena.now.objects slots.old }
     requires name { Knows C.Constants consts.now arena.now name }
     requires value { Knows C.Constants consts.now arena.now v }
-    ensures put { let see = sight C.Constants consts.now in plain_bound see.texts see.tuples arena.now slots.new result ≡ one_key (map (name_text see.texts) params.now) (plain_slots see.texts see.tuples slots.old) (see.value v) (shown (see.heap arena.now) (see.value name)) }
+    ensures put { let see = sight C.Constants consts.now in plain_bound see.texts see.tuples arena.now slots.new result
+        ≡ one_key (map (name_text see.texts) params.now) (plain_slots see.texts see.tuples slots.old) (see.value v)
+        (shown (see.heap arena.now) (see.value name)) }
     ensures known { under C.Constants consts.now IsKnownBound arena.now.objects slots.new result }
 {
     let Some(text) = str_of(arena, consts, name) else {
@@ -109,7 +113,9 @@ pub(crate) fn put_keywords<C: Constants>(
     requires slots { length slots.old ≡ length params.now }
     requires known_slots { under C.Constants consts.now AreKnown arena.now.objects slots.old }
     requires known { KnowsPairs C.Constants consts.now arena.now keys.now }
-    ensures put { let see = sight C.Constants consts.now in plain_bound see.texts see.tuples arena.now slots.new result ≡ with_keys (see.heap arena.now) (map (name_text see.texts) params.now) (Ok (plain_slots see.texts see.tuples slots.old)) (map see.pair keys.now) }
+    ensures put { let see = sight C.Constants consts.now in plain_bound see.texts see.tuples arena.now slots.new result
+        ≡ with_keys (see.heap arena.now) (map (name_text see.texts) params.now) (Ok (plain_slots see.texts see.tuples slots.old))
+        (map see.pair keys.now) }
     ensures known { under C.Constants consts.now IsKnownBound arena.now.objects slots.new result }
 {
     for pair in keys {

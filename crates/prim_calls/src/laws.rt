@@ -15,8 +15,12 @@ ghost use Rattle.prim_calls.specs.Families.{IsOnHeap, IsOfPorts};
 
 /// The effect of a call of a built-in is that of its family: what `IsCall` tells of the arena, the output and the ports.
 pub fn effects_law()
-    ensures heap { (w : PlainWorld) (b : Builtin) (args : List Val) (keys : List (Val × Val)) → IsOnHeap b → call_builtin w b args keys ≡ on_heap w (call w.heap b args keys) }
-    ensures print { (w : PlainWorld) (args : List Val) (keys : List (Val × Val)) → call_builtin w builtins.Print args keys ≡ prints w (printed w.heap args keys) }
-    ensures ports { (w : PlainWorld) (b : Builtin) (args : List Val) (keys : List (Val × Val)) → IsOfPorts b → call_builtin w b args keys ≡ on_ports w (call_port w.heap w.ports b args keys) }
-    ensures port_module { (w : PlainWorld) (args : List Val) (keys : List (Val × Val)) → call_builtin w builtins.Port args keys ≡ on_heap w (raises (NotCallable (type_name w.heap (Built builtins.Port))) w.heap) }
+    ensures heap { (w : PlainWorld) (b : Builtin) (args : List Val) (keys : List (Val × Val)) → IsOnHeap b
+        → call_builtin w b args keys ≡ on_heap w (call w.heap b args keys) }
+    ensures print { (w : PlainWorld) (args : List Val) (keys : List (Val × Val))
+        → call_builtin w builtins.Print args keys ≡ prints w (printed w.heap args keys) }
+    ensures ports { (w : PlainWorld) (b : Builtin) (args : List Val) (keys : List (Val × Val)) → IsOfPorts b
+        → call_builtin w b args keys ≡ on_ports w (call_port w.heap w.ports b args keys) }
+    ensures port_module { (w : PlainWorld) (args : List Val) (keys : List (Val × Val))
+        → call_builtin w builtins.Port args keys ≡ on_heap w (raises (NotCallable (type_name w.heap (Built builtins.Port))) w.heap) }
 {}

@@ -28,7 +28,8 @@ pub fn call_method<C: Constants>(
     requires few { length args.now < 2 ^ 32 }
     requires known { KnowsAll C.Constants consts.now arena.old args.now }
     requires all_told { TellsAll C.Constants consts.now arena.old }
-    ensures { Does C.Constants consts.now arena.old arena.new result (λ heap see. call_method_in heap method (see.value object) (map see.value args.now) (map see.pair keys.now)) }
+    ensures { Does C.Constants consts.now arena.old arena.new result
+        (λ heap see. call_method_in heap method (see.value object) (map see.value args.now) (map see.pair keys.now)) }
 {
     match method {
         Builtin::ListAppend => call_list_append(arena, consts, object, args, keys),

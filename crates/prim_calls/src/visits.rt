@@ -32,7 +32,8 @@ pub fn visits_call_method<C: Constants>(
     requires few { length args.now < 2 ^ 32 }
     requires known { KnowsAll C.Constants consts.now arena.now args.now }
     requires all_told { TellsAll C.Constants consts.now arena.now }
-    ensures { CountsUpTo C.Constants consts.now result most arena.now (λ heap see. call_method_in heap method (see.value object) (map see.value args.now) (map see.pair keys.now)) }
+    ensures { CountsUpTo C.Constants consts.now result most arena.now
+        (λ heap see. call_method_in heap method (see.value object) (map see.value args.now) (map see.pair keys.now)) }
 {
     match method {
         Builtin::ListExtend => visits_call_list_extend(arena, consts, object, args, keys, most),
@@ -57,7 +58,9 @@ pub fn visits_call_builtin<C: Constants>(
     requires known { KnowsAll C.Constants consts.now arena.now args.now }
     requires known_keys { KnowsPairs C.Constants consts.now arena.now keys.now }
     requires all_told { TellsAll C.Constants consts.now arena.now }
-    ensures { let see = sight C.Constants consts.now in (w : PlainWorld) → result ≡ min (call_builtin_in (world_over see.texts see.tuples w arena.now) b (map see.value args.now) (map see.pair keys.now)).visits most }
+    ensures { let see = sight C.Constants consts.now in (w : PlainWorld)
+        → result ≡ min (call_builtin_in (world_over see.texts see.tuples w arena.now) b (map see.value args.now)
+        (map see.pair keys.now)).visits most }
 {
     match b {
         Builtin::Print => visits_call_print(arena, consts, args, keys, most),

@@ -30,7 +30,9 @@ fn best_value<C: Constants>(
 ) -> Result<Value, Stop>
     requires known { under C.Constants consts.now AreKnown arena.now.objects from }
     requires all_told { TellsAll C.Constants consts.now arena.now }
-    ensures { Does C.Constants consts.now arena.now arena.now result (λ heap see. best_of heap (plain_extreme extreme) (λ best. gives best heap) (map see.value (values_of see.tuples arena.now from.entry))) }
+    ensures { Does C.Constants consts.now arena.now arena.now result
+        (λ heap see. best_of heap (plain_extreme extreme) (λ best. gives best heap)
+        (map see.value (values_of see.tuples arena.now from.entry))) }
 {
     if candidate_count(arena, consts, from) == 0 {
         return Err(Stop::Raises(Fault::NothingToCompare));
@@ -57,7 +59,8 @@ fn best_letter<C: Constants>(
     requires leads { Leads arena.old.objects s }
     requires told { Tells C.Constants consts.now s }
     requires all_told { TellsAll C.Constants consts.now arena.old }
-    ensures { Does C.Constants consts.now arena.old arena.new result (λ heap see. iterating heap (see.value s) (best_of heap (plain_extreme extreme) (made_letter heap (shown heap (see.value s))))) }
+    ensures { Does C.Constants consts.now arena.old arena.new result
+        (λ heap see. iterating heap (see.value s) (best_of heap (plain_extreme extreme) (made_letter heap (shown heap (see.value s))))) }
 {
     let bytes = spelled_bytes(arena, consts, s);
     if bytes.is_empty() {
@@ -77,7 +80,9 @@ fn best_item<C: Constants>(
     requires leads { Leads arena.old.objects over }
     requires told { Tells C.Constants consts.now over }
     requires all_told { TellsAll C.Constants consts.now arena.old }
-    ensures { Does C.Constants consts.now arena.old arena.new result (λ heap see. iterating heap (see.value over) (best_of heap (plain_extreme extreme) (made_letter heap (shown heap (see.value over))))) }
+    ensures { Does C.Constants consts.now arena.old arena.new result
+        (λ heap see. iterating heap (see.value over)
+        (best_of heap (plain_extreme extreme) (made_letter heap (shown heap (see.value over))))) }
 {
     if is_str(over) {
         best_letter(arena, consts, extreme, over)

@@ -28,7 +28,9 @@ fn visits_best_value<C: Constants>(
 ) -> u64
     requires known { under C.Constants consts.now AreKnown arena.now.objects from }
     requires all_told { TellsAll C.Constants consts.now arena.now }
-    ensures { CountsUpTo C.Constants consts.now result most arena.now (λ heap see. best_of heap (plain_extreme extreme) (λ best. gives best heap) (map see.value (values_of see.tuples arena.now from.entry))) }
+    ensures { CountsUpTo C.Constants consts.now result most arena.now
+        (λ heap see. best_of heap (plain_extreme extreme) (λ best. gives best heap)
+        (map see.value (values_of see.tuples arena.now from.entry))) }
 {
     if candidate_count(arena, consts, from) == 0 {
         return 0;
@@ -47,7 +49,8 @@ fn visits_letters<C: Constants>(
     requires str { is_some_str s ≡ true }
     requires leads { Leads arena.now.objects s }
     requires told { Tells C.Constants consts.now s }
-    ensures { CountsUpTo C.Constants consts.now result most arena.now (λ heap see. iterating heap (see.value s) (best_of heap (plain_extreme _extreme) (made_letter heap (shown heap (see.value s))))) }
+    ensures { CountsUpTo C.Constants consts.now result most arena.now
+        (λ heap see. iterating heap (see.value s) (best_of heap (plain_extreme _extreme) (made_letter heap (shown heap (see.value s))))) }
 {
     let count = kept_count(arena, consts, s) as u64;
     most.min((2 * count).saturating_sub(1))
@@ -63,7 +66,9 @@ fn visits_best_item<C: Constants>(
     requires leads { Leads arena.now.objects over }
     requires told { Tells C.Constants consts.now over }
     requires all_told { TellsAll C.Constants consts.now arena.now }
-    ensures { CountsUpTo C.Constants consts.now result most arena.now (λ heap see. iterating heap (see.value over) (best_of heap (plain_extreme extreme) (made_letter heap (shown heap (see.value over))))) }
+    ensures { CountsUpTo C.Constants consts.now result most arena.now
+        (λ heap see. iterating heap (see.value over)
+        (best_of heap (plain_extreme extreme) (made_letter heap (shown heap (see.value over))))) }
 {
     if is_str(over) {
         visits_letters(arena, consts, extreme, over, most)

@@ -30,7 +30,8 @@ pub(crate) fn best<C: Constants>(
     requires known { under C.Constants consts.now AreKnown arena.now.objects from }
     requires all_told { TellsAll C.Constants consts.now arena.now }
     requires some { 0 < length (values_of (C.items_of consts.now) arena.now from) }
-    ensures answer { let see = sight C.Constants consts.now in option_map (plain_best see.texts see.tuples) result ≡ (best_among (see.heap arena.now) (plain_extreme extreme) (map see.value (values_of see.tuples arena.now from.entry))).answer }
+    ensures answer { let see = sight C.Constants consts.now in option_map (plain_best see.texts see.tuples) result
+        ≡ (best_among (see.heap arena.now) (plain_extreme extreme) (map see.value (values_of see.tuples arena.now from.entry))).answer }
     ensures known { IfSome result (under C.Constants consts.now IsKnownBest arena.now.objects) }
 {
     let mut best = candidate(arena, consts, from, 0);
@@ -77,7 +78,9 @@ pub(crate) fn visits_best<C: Constants>(
     requires known { under C.Constants consts.now AreKnown arena.now.objects from }
     requires all_told { TellsAll C.Constants consts.now arena.now }
     requires some { 0 < length (values_of (C.items_of consts.now) arena.now from) }
-    ensures { let see = sight C.Constants consts.now in result ≡ min (best_among (see.heap arena.now) (plain_extreme extreme) (map see.value (values_of see.tuples arena.now from.entry))).visits most }
+    ensures { let see = sight C.Constants consts.now in result
+        ≡ min (best_among (see.heap arena.now) (plain_extreme extreme) (map see.value (values_of see.tuples arena.now from.entry))).visits
+        most }
 {
     if most == 0 {
         return 0;

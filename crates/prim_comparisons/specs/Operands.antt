@@ -17,7 +17,9 @@ abbrev pub IsUnsupported : Heap Value ℕ → List ℕ → Value → Value → F
 IsUnsupported heap method left right fault =
     (texts : StrNo → Option (List ℕ)) (tuples : ConstNo → Option (List Value))
     → IsKnownFault texts tuples heap.objects fault
-    × (plain_fault texts tuples heap fault ≡ Unsupported method (type_name (plain_heap texts tuples heap) (plain texts tuples left)) (type_name (plain_heap texts tuples heap) (plain texts tuples right)))
+    × (plain_fault texts tuples heap fault
+    ≡ Unsupported method (type_name (plain_heap texts tuples heap) (plain texts tuples left))
+    (type_name (plain_heap texts tuples heap) (plain texts tuples right)))
 
 -- a number that is one of a range's
 abbrev pub is_number_within : Shown → ℤ → ℤ → ℤ → Bool
@@ -27,4 +29,5 @@ is_number_within _ start stop step = false
 -- is a value one of a range's numbers, whatever the constants are?
 abbrev pub DecidesNumber : Heap Value ℕ → Value → ℤ → ℤ → ℤ → Bool → Type 0
 DecidesNumber heap v start stop step answer =
-    (texts : StrNo → Option (List ℕ)) (tuples : ConstNo → Option (List Value)) → answer ≡ is_number_within (shown (plain_heap texts tuples heap) (plain texts tuples v)) start stop step
+    (texts : StrNo → Option (List ℕ)) (tuples : ConstNo → Option (List Value))
+    → answer ≡ is_number_within (shown (plain_heap texts tuples heap) (plain texts tuples v)) start stop step

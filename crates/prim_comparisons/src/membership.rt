@@ -26,7 +26,9 @@ fn has_item<C: Constants>(arena: &Arena, consts: &C, v: Value, over: Value) -> R
     requires v_told { Tells C.Constants consts.now v }
     requires over_told { Tells C.Constants consts.now over }
     requires all_told { TellsAll C.Constants consts.now arena.now }
-    ensures { Does C.Constants consts.now arena.now arena.now result (λ heap see. after_walk heap (contains_equal heap (see.value v) (map see.value (items_in see.tuples arena.now over))) (λ found. gives (Truth found) heap)) }
+    ensures { Does C.Constants consts.now arena.now arena.now result
+        (λ heap see. after_walk heap (contains_equal heap (see.value v) (map see.value (items_in see.tuples arena.now over)))
+        (λ found. gives (Truth found) heap)) }
 {
     match contains(arena, consts, over, v) {
         Some(found) => Ok(Value::Bool(found)),
@@ -40,7 +42,9 @@ fn has_key<C: Constants>(arena: &Arena, consts: &C, v: Value, d: DictNo) -> Resu
     requires v_leads { Leads arena.now.objects v }
     requires v_told { Tells C.Constants consts.now v }
     requires all_told { TellsAll C.Constants consts.now arena.now }
-    ensures { Does C.Constants consts.now arena.now arena.now result (λ heap see. with_key_of heap (see.value v) (gives (Truth (is_some (value_of_key heap (map see.pair (pairs_at arena.now d.cell)) (see.value v)))) heap)) }
+    ensures { Does C.Constants consts.now arena.now arena.now result
+        (λ heap see. with_key_of heap (see.value v)
+        (gives (Truth (is_some (value_of_key heap (map see.pair (pairs_at arena.now d.cell)) (see.value v)))) heap)) }
 {
     if !is_key(arena, v) {
         return Err(Stop::Raises(Fault::UnsupportedOne {
@@ -65,7 +69,8 @@ fn has_text<C: Constants>(
     requires v_told { Tells C.Constants consts.now v }
     requires container_told { Tells C.Constants consts.now container }
     requires all_told { TellsAll C.Constants consts.now arena.now }
-    ensures { Does C.Constants consts.now arena.now arena.now result (λ heap see. contains_shown heap (see.value v) (see.value container) (shown heap (see.value v)) (Text bytes.now)) }
+    ensures { Does C.Constants consts.now arena.now arena.now result
+        (λ heap see. contains_shown heap (see.value v) (see.value container) (shown heap (see.value v)) (Text bytes.now)) }
 {
     match look_at(arena, consts, v) {
         Look::Text(part) => Ok(Value::Bool(has_part(bytes, part))),

@@ -26,7 +26,8 @@ fn ordered<C: Constants>(
     requires a_told { Tells C.Constants consts.now a }
     requires b_told { Tells C.Constants consts.now b }
     requires all_told { TellsAll C.Constants consts.now arena.now }
-    ensures answer { let see = sight C.Constants consts.now in option_map (plain_order see.texts see.tuples) result ≡ (walk_of (see.heap arena.now) (see.value a) (see.value b)).answer }
+    ensures answer { let see = sight C.Constants consts.now in option_map (plain_order see.texts see.tuples) result
+        ≡ (walk_of (see.heap arena.now) (see.value a) (see.value b)).answer }
     ensures lead { IfSome result (λ found. IfErr found (BothLead arena.now.objects)) }
 {
     match a {

@@ -108,7 +108,8 @@ IsPrefix texts name len = IsSome (texts name) × (len ≤ length (or_nothing (te
 -- the fault raises an exception of that kind
 abbrev pub IsKindOf : Fault → Kind → Type 0
 IsKindOf fault kind =
-    (texts : StrNo → Option (List ℕ)) (tuples : ConstNo → Option (List Value)) (heap : Heap Value ℕ) → kind ≡ plain.fault_kind (plain_fault texts tuples heap fault)
+    (texts : StrNo → Option (List ℕ)) (tuples : ConstNo → Option (List Value)) (heap : Heap Value ℕ)
+    → kind ≡ plain.fault_kind (plain_fault texts tuples heap fault)
 
 module _ (texts : StrNo → Option (List ℕ)) (tuples : ConstNo → Option (List Value)) (objects : Objects Value ℕ) where
   -- a value that leads to an object and is told

@@ -29,4 +29,5 @@ AreFew pieces = (name : List ℕ) → length (wording_text name pieces) ≤ 512 
 -- the pieces of a fault's text, whatever its name is
 abbrev pub IsWordingOf : Fault → List Piece → Type 0
 IsWordingOf fault pieces =
-    (texts : StrNo → Option (List ℕ)) (tuples : ConstNo → Option (List Value)) (heap : Heap Value ℕ) → wording_text (name_in texts tuples heap fault) pieces ≡ fault_text (plain_fault texts tuples heap fault)
+    (texts : StrNo → Option (List ℕ)) (tuples : ConstNo → Option (List Value)) (heap : Heap Value ℕ)
+    → wording_text (name_in texts tuples heap fault) pieces ≡ fault_text (plain_fault texts tuples heap fault)

@@ -98,7 +98,9 @@ fn object_does(object: ValueType, does: &'static str) -> [Piece; 7]
 
 /// `unsupported types for M: 'T', 'U'`.
 fn unsupported(method: SpecialMethod, left: ValueType, right: ValueType) -> [Piece; 7]
-    ensures text { (name : List ℕ) → wording_text name result ≡ codes "unsupported types for " ++ method_text method ++ codes ": " ++ between_quotes (type_text left) ++ codes ", " ++ between_quotes (type_text right) }
+    ensures text { (name : List ℕ)
+        → wording_text name result ≡ codes "unsupported types for " ++ method_text method ++ codes ": " ++ between_quotes (type_text left)
+        ++ codes ", " ++ between_quotes (type_text right) }
     ensures few { AreFew result }
 {
     [
@@ -114,7 +116,9 @@ fn unsupported(method: SpecialMethod, left: ValueType, right: ValueType) -> [Pie
 
 /// `unsupported type for M: 'T'`.
 fn unsupported_one(method: SpecialMethod, operand: ValueType) -> [Piece; 7]
-    ensures text { (name : List ℕ) → wording_text name result ≡ codes "unsupported type for " ++ method_text method ++ codes ": " ++ between_quotes (type_text operand) }
+    ensures text { (name : List ℕ)
+        → wording_text name result ≡ codes "unsupported type for " ++ method_text method ++ codes ": "
+        ++ between_quotes (type_text operand) }
     ensures few { AreFew result }
 {
     [

@@ -17,7 +17,8 @@ fn append<C: Constants>(arena: &mut Arena, consts: &C, l: ListNo, v: Value) -> R
     requires leads { Leads arena.old.objects v }
     requires told { Tells C.Constants consts.now v }
     requires all_told { TellsAll C.Constants consts.now arena.old }
-    ensures { Does C.Constants consts.now arena.old arena.new result (λ heap see. put_items heap l.cell (map see.value (items_at arena.old l.cell) ++ see.value v ∷ [])) }
+    ensures { Does C.Constants consts.now arena.old arena.new result
+        (λ heap see. put_items heap l.cell (map see.value (items_at arena.old l.cell) ++ see.value v ∷ [])) }
 {
     let end = list_len(arena, l);
     put_item(arena, consts, l, end, v)

@@ -28,7 +28,9 @@ fn get<C: Constants>(
     requires told { Tells C.Constants consts.now key }
     requires known { KnowsAll C.Constants consts.now arena.now others.now }
     requires all_told { TellsAll C.Constants consts.now arena.now }
-    ensures { Does C.Constants consts.now arena.now arena.now result (λ heap see. let pairs = map see.pair (pairs_at arena.now d.cell) in let key = see.value key in with_key_of heap key (gives (value_or (value_of_key heap pairs key) (map see.value others.now)) heap)) }
+    ensures { Does C.Constants consts.now arena.now arena.now result (λ heap see. let pairs = map see.pair (pairs_at arena.now d.cell)
+        in let key = see.value key
+        in with_key_of heap key (gives (value_or (value_of_key heap pairs key) (map see.value others.now)) heap)) }
 {
     if !is_key(arena, key) {
         return Err(Stop::Raises(Fault::UnsupportedOne {

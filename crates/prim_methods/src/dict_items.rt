@@ -75,7 +75,9 @@ fn fill_with_tuples(arena: &mut Arena, l: ListNo, d: DictNo) -> Result<(), NoRoo
     requires dict { IsA arena.old.objects ADict d.cell }
     requires empty { length (items_at arena.old l.cell) ≡ 0 }
     requires room { length (pairs_at arena.old d.cell) ≤ room_at arena.old l.cell }
-    ensures ok { OnOk result (arena.new ≡ with_list (with_tuples arena.old (pairs_at arena.old d.cell)) l.cell (tuples_from (used arena.old) (length (pairs_at arena.old d.cell)))) }
+    ensures ok { OnOk result (arena.new
+        ≡ with_list (with_tuples arena.old (pairs_at arena.old d.cell)) l.cell
+        (tuples_from (used arena.old) (length (pairs_at arena.old d.cell)))) }
     ensures fits { OnOk result (Fits arena.old (3 * length (pairs_at arena.old d.cell)) 0) }
     ensures refused { IfErr result (λ e. TupleRefused arena.old arena.new e (pairs_at arena.old d.cell)) }
 {
@@ -95,7 +97,8 @@ fn fill_with_tuples(arena: &mut Arena, l: ListNo, d: DictNo) -> Result<(), NoRoo
 fn make_items<C: Constants>(arena: &mut Arena, _consts: &C, d: DictNo) -> Result<Value, Stop>
     requires dict { IsA arena.old.objects ADict d.cell }
     requires all_told { TellsAll C.Constants _consts.now arena.old }
-    ensures { Does C.Constants _consts.now arena.old arena.new result (λ heap see. let pairs = map see.pair (pairs_at arena.old d.cell) in list_of heap (length pairs) (λ behind. making_pairs behind pairs)) }
+    ensures { Does C.Constants _consts.now arena.old arena.new result (λ heap see. let pairs = map see.pair (pairs_at arena.old d.cell)
+        in list_of heap (length pairs) (λ behind. making_pairs behind pairs)) }
 {
     let count = dict_len(arena, d) as u64;
     match arena.make_list(count) {

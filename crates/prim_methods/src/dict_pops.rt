@@ -27,7 +27,9 @@ fn pop_key<C: Constants>(
     requires told { Tells C.Constants consts.now key }
     requires known { KnowsAll C.Constants consts.now arena.old others.now }
     requires all_told { TellsAll C.Constants consts.now arena.old }
-    ensures { Does C.Constants consts.now arena.old arena.new result (λ heap see. let pairs = map see.pair (pairs_at arena.old d.cell) in let key = see.value key in with_key_of heap key (pop_found heap d.cell pairs key (map see.value others.now) (value_of_key heap pairs key))) }
+    ensures { Does C.Constants consts.now arena.old arena.new result (λ heap see. let pairs = map see.pair (pairs_at arena.old d.cell)
+        in let key = see.value key
+        in with_key_of heap key (pop_found heap d.cell pairs key (map see.value others.now) (value_of_key heap pairs key))) }
 {
     if !is_key(arena, key) {
         return Err(Stop::Raises(Fault::UnsupportedOne {

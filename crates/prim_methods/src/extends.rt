@@ -25,7 +25,8 @@ fn extend_only<C: Constants>(
     requires leads { Leads arena.old.objects from }
     requires told { Tells C.Constants consts.now from }
     requires all_told { TellsAll C.Constants consts.now arena.old }
-    ensures { Does C.Constants consts.now arena.old arena.new result (λ heap see. followed_by (extend_in heap l.cell (see.value from)) (λ extended behind. gives Nil behind)) }
+    ensures { Does C.Constants consts.now arena.old arena.new result
+        (λ heap see. followed_by (extend_in heap l.cell (see.value from)) (λ extended behind. gives Nil behind)) }
 {
     match extend_list(arena, consts, l, from) {
         Ok(_) => Ok(Value::None),

@@ -53,7 +53,8 @@ fn make_half<C: Constants>(
 ) -> Result<Value, Stop>
     requires dict { IsA arena.old.objects ADict d.cell }
     requires all_told { TellsAll C.Constants _consts.now arena.old }
-    ensures { Does C.Constants _consts.now arena.old arena.new result (λ heap see. making_list heap (map see.value (map (half_of half) (pairs_at arena.old d.cell)))) }
+    ensures { Does C.Constants _consts.now arena.old arena.new result
+        (λ heap see. making_list heap (map see.value (map (half_of half) (pairs_at arena.old d.cell)))) }
 {
     let count = dict_len(arena, d) as u64;
     match arena.make_list(count) {

@@ -38,7 +38,8 @@ fn insert<C: Constants>(
     requires leads { Leads arena.old.objects v }
     requires told { Tells C.Constants consts.now v }
     requires all_told { TellsAll C.Constants consts.now arena.old }
-    ensures { Does C.Constants consts.now arena.old arena.new result (λ heap see. insert_item heap l.cell (map see.value (items_at arena.old l.cell)) (see.value index) (see.value v)) }
+    ensures { Does C.Constants consts.now arena.old arena.new result
+        (λ heap see. insert_item heap l.cell (map see.value (items_at arena.old l.cell)) (see.value index) (see.value v)) }
 {
     match number_of(arena, index) {
         Ok(number) => {

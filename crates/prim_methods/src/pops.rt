@@ -23,7 +23,8 @@ fn pop_from<C: Constants>(
     requires list { IsA arena.old.objects AList l.cell }
     requires small { IsSmall number }
     requires all_told { TellsAll C.Constants consts.now arena.old }
-    ensures { Does C.Constants consts.now arena.old arena.new result (λ heap see. pop_from_in heap l.cell (map see.value (items_at arena.old l.cell)) (Int number)) }
+    ensures { Does C.Constants consts.now arena.old arena.new result
+        (λ heap see. pop_from_in heap l.cell (map see.value (items_at arena.old l.cell)) (Int number)) }
 {
     if list_len(arena, l) == 0 {
         return Err(Stop::Raises(Fault::EmptyList));
@@ -48,7 +49,8 @@ fn pop<C: Constants>(
     requires list { IsA arena.old.objects AList l.cell }
     requires known { KnowsAll C.Constants consts.now arena.old args.now }
     requires all_told { TellsAll C.Constants consts.now arena.old }
-    ensures { Does C.Constants consts.now arena.old arena.new result (λ heap see. pop_in heap l.cell (map see.value (items_at arena.old l.cell)) (map see.value args.now)) }
+    ensures { Does C.Constants consts.now arena.old arena.new result
+        (λ heap see. pop_in heap l.cell (map see.value (items_at arena.old l.cell)) (map see.value args.now)) }
 {
     if args.is_empty() {
         return pop_from(arena, consts, l, -1);

@@ -22,7 +22,8 @@ pub(crate) fn put_item<C: Constants>(
     requires told { Tells C.Constants _consts.now v }
     requires all_told { TellsAll C.Constants _consts.now arena.old }
     requires within { at ≤ length (items_at arena.old l.cell) }
-    ensures { Does C.Constants _consts.now arena.old arena.new result (λ heap see. put_items heap l.cell (insert (map see.value (items_at arena.old l.cell)) at (see.value v))) }
+    ensures { Does C.Constants _consts.now arena.old arena.new result
+        (λ heap see. put_items heap l.cell (insert (map see.value (items_at arena.old l.cell)) at (see.value v))) }
 {
     match list_insert(arena, l, at, v) {
         Ok(()) => Ok(Value::None),

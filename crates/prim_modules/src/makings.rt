@@ -44,7 +44,10 @@ pub fn make_function<C: Constants>(
     requires defaults { IsDefaults function.defaults }
     requires known { Knows C.Constants _consts.now arena.old function.defaults }
     requires all_told { TellsAll C.Constants _consts.now arena.old }
-    ensures effect { let see = sight C.Constants _consts.now in IsEffect see.texts see.tuples arena.old arena.new result (λ w. make_function_in w (see.name function.name) (see.name function.module_name) function.code function.names.cell (see.value function.defaults)) }
+    ensures effect { let see = sight C.Constants _consts.now
+        in IsEffect see.texts see.tuples arena.old arena.new result
+        (λ w. make_function_in w (see.name function.name) (see.name function.module_name) function.code function.names.cell
+        (see.value function.defaults)) }
     ensures known { KnowsAnswer C.Constants _consts.now arena.new result }
     ensures later { Later arena.old.objects arena.new.objects }
     ensures all_told { TellsAll C.Constants _consts.now arena.new }
@@ -96,7 +99,9 @@ fn set_title<C: Constants>(
     requires name { IsSome (C.text_of consts.now (strs.Pool name)) }
     requires made { AreMade arena.old.objects made }
     requires all_told { TellsAll C.Constants consts.now arena.old }
-    ensures { Does C.Constants consts.now arena.old arena.new result (λ heap see. put_pair (with_names heap made.number.cell made.names.cell) made.names.cell (Str (codes "__name__")) (Str (see.name name))) }
+    ensures { Does C.Constants consts.now arena.old arena.new result
+        (λ heap see. put_pair (with_names heap made.number.cell made.names.cell) made.names.cell (Str (codes "__name__"))
+        (Str (see.name name))) }
 {
     module_names(arena, made.number, made.names);
     let title = Value::Str(StrNo::Pool(name));
@@ -113,7 +118,8 @@ fn making_module<C: Constants>(
     requires key { C.text_of consts.now key ≡ Some (codes "__name__") }
     requires name { IsSome (C.text_of consts.now (strs.Pool name)) }
     requires all_told { TellsAll C.Constants consts.now arena.old }
-    ensures effect { let see = sight C.Constants consts.now in IsMade see.texts see.tuples arena.old arena.new result (λ w. making_module_in w (see.name name)) }
+    ensures effect { let see = sight C.Constants consts.now
+        in IsMade see.texts see.tuples arena.old arena.new result (λ w. making_module_in w (see.name name)) }
     ensures made { IfOk result (AreMade arena.new.objects) }
     ensures later { Later arena.old.objects arena.new.objects }
     ensures all_told { TellsAll C.Constants consts.now arena.new }
@@ -145,7 +151,8 @@ pub fn make_module<C: Constants>(
     requires name { IsSome (C.text_of consts.now (strs.Pool name)) }
     requires room { length modules.old.entries < modules.old.room }
     requires all_told { TellsAll C.Constants consts.now arena.old }
-    ensures effect { let see = sight C.Constants consts.now in IsMaking see.texts see.tuples arena.old arena.new modules.old modules.new result (λ w. make_module_in w (see.name name)) }
+    ensures effect { let see = sight C.Constants consts.now
+        in IsMaking see.texts see.tuples arena.old arena.new modules.old modules.new result (λ w. make_module_in w (see.name name)) }
     ensures registered { modules.new ≡ registry_after name modules.old result }
     ensures made { IfOk result (AreMade arena.new.objects) }
     ensures later { Later arena.old.objects arena.new.objects }

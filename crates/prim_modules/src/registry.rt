@@ -89,7 +89,8 @@ impl Modules {
 
     /// The registered module of this name, and else `port`.
     pub fn module_named<C: Constants>(&self, consts: &C, name: &[u8]) -> Value
-        ensures { let see = sight C.Constants consts.now in (w : PlainWorld) → see.value result ≡ module_named_in (record w { modules = plain_modules see.texts see.tuples self.now }) name.now }
+        ensures { let see = sight C.Constants consts.now in (w : PlainWorld)
+            → see.value result ≡ module_named_in (record w { modules = plain_modules see.texts see.tuples self.now }) name.now }
     {
         match self.registered_as(consts, name) {
             Some(m) => Value::Module(m),
@@ -99,7 +100,9 @@ impl Modules {
 
     /// No module of this name is registered from now on.
     pub fn forget_module<C: Constants>(&mut self, consts: &C, name: &[u8])
-        ensures forgotten { let see = sight C.Constants consts.now in (w : PlainWorld) → record w { modules = plain_modules see.texts see.tuples self.new } ≡ forget_module_in (record w { modules = plain_modules see.texts see.tuples self.old }) name.now }
+        ensures forgotten { let see = sight C.Constants consts.now in (w : PlainWorld)
+            → record w { modules = plain_modules see.texts see.tuples self.new }
+            ≡ forget_module_in (record w { modules = plain_modules see.texts see.tuples self.old }) name.now }
         ensures room { self.new.room ≡ self.old.room }
         ensures fewer { length self.new.entries ≤ length self.old.entries }
     {

@@ -16,7 +16,8 @@ use prim_assignments::{Stop, name_bytes, set_attr};
 
 /// The registered module before a dotted name.
 fn outer_module<C: Constants>(consts: &C, modules: &Modules, name: u32) -> Option<ModuleNo>
-    ensures { let see = sight C.Constants consts.now in option_map (λ m. m.cell) result ≡ option_and_then (registered_in (plain_modules see.texts see.tuples modules.now)) (outer_name (see.name name)) }
+    ensures { let see = sight C.Constants consts.now in option_map (λ m. m.cell) result
+        ≡ option_and_then (registered_in (plain_modules see.texts see.tuples modules.now)) (outer_name (see.name name)) }
 {
     let text = name_bytes(consts, StrNo::Pool(name));
     match last_dot(text) {
@@ -39,7 +40,8 @@ pub fn store_module<C: Constants>(
     requires is_module { IsA arena.old.objects AModule m.cell }
     requires registered { let see = sight C.Constants consts.now in Registered (plain_modules see.texts see.tuples modules.now) (see.heap arena.old) }
     requires all_told { TellsAll C.Constants consts.now arena.old }
-    ensures effect { let see = sight C.Constants consts.now in IsStored see.texts see.tuples arena.old arena.new modules.now result (λ w. store_module_in w (see.name name) m.cell) }
+    ensures effect { let see = sight C.Constants consts.now
+        in IsStored see.texts see.tuples arena.old arena.new modules.now result (λ w. store_module_in w (see.name name) m.cell) }
     ensures known { KnowsAnswer C.Constants consts.now arena.new result }
     ensures later { Later arena.old.objects arena.new.objects }
     ensures all_told { TellsAll C.Constants consts.now arena.new }

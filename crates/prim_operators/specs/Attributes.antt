@@ -38,7 +38,8 @@ IsMethodsAttribute methods Is name attribute =
 abbrev pub IsArgsAttribute : Value → List ℕ → Attribute → Type 0
 IsArgsAttribute args name attribute =
     (texts : StrNo → Option (List ℕ)) (tuples : ConstNo → Option (List Value)) (objects : Objects Value ℕ) (v : Value) → IsKnown texts tuples objects args
-    → (plain_attribute texts tuples attribute ≡ (if bytes_eq name (codes "args") then uses.Found (plain texts tuples args) else uses.Absent)) × IsKnownAttribute texts tuples objects v attribute
+    → (plain_attribute texts tuples attribute ≡ (if bytes_eq name (codes "args") then uses.Found (plain texts tuples args)
+    else uses.Absent)) × IsKnownAttribute texts tuples objects v attribute
 
 -- what a built-in has
 abbrev pub IsBuiltAttribute : Builtin → List ℕ → Attribute → Type 0

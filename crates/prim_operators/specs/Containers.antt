@@ -39,11 +39,14 @@ IsContainer heap v containers.Other =
     (texts : StrNo → Option (List ℕ)) (tuples : ConstNo → Option (List Value)) → HasNoItems (shown (plain_heap texts tuples heap) (plain texts tuples v))
 
 -- the place that an index names: what a primitive does there follows, whatever it does
-pub record IsPlace (texts : StrNo → Option (List ℕ)) (tuples : ConstNo → Option (List Value)) (heap : Heap Value ℕ) (object index : Value) (at : ℕ) : Type 0 where
+pub record IsPlace (texts : StrNo → Option (List ℕ)) (tuples : ConstNo
+    → Option (List Value)) (heap : Heap Value ℕ) (object index : Value) (at : ℕ) : Type 0 where
   pub follows : (next : ℕ → Outcome Val) → at_place (plain_heap texts tuples heap) (plain texts tuples object) (plain texts tuples index) next ≡ next at
 
 -- an index that names none: the fault follows
-pub record IsNoPlace (texts : StrNo → Option (List ℕ)) (tuples : ConstNo → Option (List Value)) (heap : Heap Value ℕ) (object index : Value) (fault : Fault) : Type 0 where
+pub record IsNoPlace (texts : StrNo → Option (List ℕ)) (tuples : ConstNo
+    → Option (List Value)) (heap : Heap Value ℕ) (object index : Value) (fault : Fault) : Type 0 where
   pub known : IsKnownFault texts tuples heap.objects fault
   pub follows : (next : ℕ → Outcome Val)
-      → at_place (plain_heap texts tuples heap) (plain texts tuples object) (plain texts tuples index) next ≡ raises (plain_fault texts tuples heap fault) (plain_heap texts tuples heap)
+      → at_place (plain_heap texts tuples heap) (plain texts tuples object) (plain texts tuples index) next
+      ≡ raises (plain_fault texts tuples heap fault) (plain_heap texts tuples heap)

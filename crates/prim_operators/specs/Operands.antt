@@ -19,7 +19,8 @@ number_in _ = None
 -- does a value have items, whatever the constants are?
 abbrev pub DecidesIterable : Heap Value ℕ → Value → Bool → Type 0
 DecidesIterable heap v answer =
-    (texts : StrNo → Option (List ℕ)) (tuples : ConstNo → Option (List Value)) → answer ≡ is_some (items_in (plain_heap texts tuples heap) (plain texts tuples v))
+    (texts : StrNo → Option (List ℕ)) (tuples : ConstNo → Option (List Value))
+    → answer ≡ is_some (items_in (plain_heap texts tuples heap) (plain texts tuples v))
 
 -- values whose items are no new texts
 abbrev pub HasItems : Value → Type 0

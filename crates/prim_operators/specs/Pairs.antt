@@ -49,7 +49,8 @@ abbrev pub IsOperand : Heap Value ℕ → Value → Operand → Type 0
 IsOperand heap v (operands.Number n) =
     (texts : StrNo → Option (List ℕ)) (tuples : ConstNo → Option (List Value)) → shown (plain_heap texts tuples heap) (plain texts tuples v) ≡ Number n
 IsOperand heap v (operands.Shaped shape) =
-    HasShape v shape × ((texts : StrNo → Option (List ℕ)) (tuples : ConstNo → Option (List Value)) → ShowsShape (shown (plain_heap texts tuples heap) (plain texts tuples v)) shape)
+    HasShape v shape × ((texts : StrNo → Option (List ℕ)) (tuples : ConstNo → Option (List Value))
+    → ShowsShape (shown (plain_heap texts tuples heap) (plain texts tuples v)) shape)
 IsOperand heap v operands.Other =
     (texts : StrNo → Option (List ℕ)) (tuples : ConstNo → Option (List Value)) → IsUnfit (shown (plain_heap texts tuples heap) (plain texts tuples v))
 
@@ -81,7 +82,9 @@ IsOperands heap left right (pairs.Alike shape) = IsOperand heap left (operands.S
 IsOperands heap left right (pairs.Left shape n) = IsOperand heap left (operands.Shaped shape) × IsOperand heap right (operands.Number n)
 IsOperands heap left right (pairs.Right shape n) = IsOperand heap left (operands.Number n) × IsOperand heap right (operands.Shaped shape)
 IsOperands heap left right pairs.Unfit =
-    (texts : StrNo → Option (List ℕ)) (tuples : ConstNo → Option (List Value)) → AreUnfit (shown (plain_heap texts tuples heap) (plain texts tuples left)) (shown (plain_heap texts tuples heap) (plain texts tuples right))
+    (texts : StrNo → Option (List ℕ)) (tuples : ConstNo → Option (List Value))
+    → AreUnfit (shown (plain_heap texts tuples heap) (plain texts tuples left))
+    (shown (plain_heap texts tuples heap) (plain texts tuples right))
 
 module _ (texts : StrNo → Option (List ℕ)) (tuples : ConstNo → Option (List Value)) (heap : Heap Value ℕ) where
   -- a new str, tuple or list of these
@@ -100,4 +103,6 @@ abbrev pub IsUnsupported : Heap Value ℕ → plain_operators.Operator → Value
 IsUnsupported heap op left right fault =
     (texts : StrNo → Option (List ℕ)) (tuples : ConstNo → Option (List Value))
     → IsKnownFault texts tuples heap.objects fault
-    × (plain_fault texts tuples heap fault ≡ Unsupported (plain_operators.operator_method op) (type_name (plain_heap texts tuples heap) (plain texts tuples left)) (type_name (plain_heap texts tuples heap) (plain texts tuples right)))
+    × (plain_fault texts tuples heap fault
+    ≡ Unsupported (plain_operators.operator_method op) (type_name (plain_heap texts tuples heap) (plain texts tuples left))
+    (type_name (plain_heap texts tuples heap) (plain texts tuples right)))

@@ -117,7 +117,8 @@ fn module_attribute<C: Constants>(arena: &Arena, consts: &C, m: ModuleNo, name: 
     requires is_module { IsA arena.now.objects AModule m.cell }
     requires name { IsSome (C.text_of consts.now name) }
     requires all_told { TellsAll C.Constants consts.now arena.now }
-    ensures plain { let see = sight C.Constants consts.now in plain_attribute see.texts see.tuples result ≡ attribute_in (see.heap arena.now) (At m.cell) (see.text name) }
+    ensures plain { let see = sight C.Constants consts.now in plain_attribute see.texts see.tuples result
+        ≡ attribute_in (see.heap arena.now) (At m.cell) (see.text name) }
     ensures known { under C.Constants consts.now IsKnownAttribute arena.now.objects (Value.Module m) result }
 {
     arena.sound_law();
@@ -136,7 +137,8 @@ pub fn attribute_of<C: Constants>(arena: &Arena, consts: &C, v: Value, name: Str
     requires leads { Leads arena.now.objects v }
     requires name { IsSome (C.text_of consts.now name) }
     requires all_told { TellsAll C.Constants consts.now arena.now }
-    ensures plain { let see = sight C.Constants consts.now in plain_attribute see.texts see.tuples result ≡ attribute_in (see.heap arena.now) (see.value v) (see.text name) }
+    ensures plain { let see = sight C.Constants consts.now in plain_attribute see.texts see.tuples result
+        ≡ attribute_in (see.heap arena.now) (see.value v) (see.text name) }
     ensures known { under C.Constants consts.now IsKnownAttribute arena.now.objects v result }
 {
     let text = name_bytes(consts, name);

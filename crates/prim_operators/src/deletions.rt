@@ -29,7 +29,8 @@ fn delete_key<C: Constants>(
     requires leads { Leads arena.old.objects key }
     requires told { Tells C.Constants consts.now key }
     requires all_told { TellsAll C.Constants consts.now arena.old }
-    ensures { Does C.Constants consts.now arena.old arena.new result (λ heap see. let pairs = map see.pair (pairs_at arena.old d.cell) in let key = see.value key in of_key heap pairs key (λ found. gives Nil (with_dict heap d.cell (without_key heap pairs key)))) }
+    ensures { Does C.Constants consts.now arena.old arena.new result (λ heap see. let pairs = map see.pair (pairs_at arena.old d.cell)
+        in let key = see.value key in of_key heap pairs key (λ found. gives Nil (with_dict heap d.cell (without_key heap pairs key)))) }
 {
     if !is_key(arena, key) {
         return Err(Stop::Raises(Fault::UnsupportedOne {
@@ -55,7 +56,8 @@ fn delete_place<C: Constants>(
     requires leads { Leads arena.old.objects index }
     requires told { Tells C.Constants consts.now index }
     requires all_told { TellsAll C.Constants consts.now arena.old }
-    ensures { Does C.Constants consts.now arena.old arena.new result (λ heap see. let items = map see.value (items_at arena.old l.cell) in at_place heap (At l.cell) (see.value index) (λ at. gives Nil (with_list heap l.cell (remove items at)))) }
+    ensures { Does C.Constants consts.now arena.old arena.new result (λ heap see. let items = map see.value (items_at arena.old l.cell)
+        in at_place heap (At l.cell) (see.value index) (λ at. gives Nil (with_list heap l.cell (remove items at)))) }
 {
     items_law(arena, consts, Value::List(l));
     match place_of(arena, consts, Value::List(l), index) {

@@ -53,7 +53,8 @@ fn get_place<C: Constants>(
     requires index_leads { Leads arena.old.objects index }
     requires index_told { Tells C.Constants consts.now index }
     requires all_told { TellsAll C.Constants consts.now arena.old }
-    ensures { Does C.Constants consts.now arena.old arena.new result (λ heap see. at_place heap (see.value object) (see.value index) (item_in heap (see.value object))) }
+    ensures { Does C.Constants consts.now arena.old arena.new result
+        (λ heap see. at_place heap (see.value object) (see.value index) (item_in heap (see.value object))) }
 {
     match place_of(arena, consts, object, index) {
         Ok(at) => item_of(arena, consts, object, at),

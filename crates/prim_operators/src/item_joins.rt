@@ -35,7 +35,8 @@ pub(crate) fn make_joined_tuple<C: Constants>(
 ) -> Result<Value, Stop>
     requires known { under C.Constants consts.now AreKnown arena.old.objects source }
     requires all_told { TellsAll C.Constants consts.now arena.old }
-    ensures { Does C.Constants consts.now arena.old arena.new result (λ heap see. making_tuple heap (map see.value (source_items see.tuples arena.old source))) }
+    ensures { Does C.Constants consts.now arena.old arena.new result
+        (λ heap see. making_tuple heap (map see.value (source_items see.tuples arena.old source))) }
 {
     let len = items_len(arena, consts, source);
     if len == 0 {

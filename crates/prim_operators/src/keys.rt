@@ -22,7 +22,8 @@ pub(crate) fn get_key<C: Constants>(
     requires leads { Leads arena.now.objects key }
     requires told { Tells C.Constants consts.now key }
     requires all_told { TellsAll C.Constants consts.now arena.now }
-    ensures { Does C.Constants consts.now arena.now arena.now result (λ heap see. of_key heap (map see.pair (pairs_at arena.now d.cell)) (see.value key) (λ found. gives found heap)) }
+    ensures { Does C.Constants consts.now arena.now arena.now result
+        (λ heap see. of_key heap (map see.pair (pairs_at arena.now d.cell)) (see.value key) (λ found. gives found heap)) }
 {
     if !is_key(arena, key) {
         return Err(Stop::Raises(Fault::UnsupportedOne {

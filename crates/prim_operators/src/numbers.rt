@@ -1,7 +1,8 @@
 //! Operators on small integers, whose result is one again or a fault.
 
 ghost use Rattle.std.specs.Prelude.{◌≡◌};
-ghost use Rattle.prim_faults.specs.py_primitives.Operators.{number_answer as number_answer_of, unary_answer as unary_answer_of, gives_number as gives_number_of};
+ghost use Rattle.prim_faults.specs.py_primitives.Operators.{number_answer as number_answer_of, unary_answer as unary_answer_of};
+ghost use Rattle.prim_faults.specs.py_primitives.Operators.{gives_number as gives_number_of};
 ghost use Rattle.prim_operators.specs.Operators.{plain_operator, plain_unary};
 ghost use Rattle.prim_operators.specs.Changeless.{IsAnswerOf};
 

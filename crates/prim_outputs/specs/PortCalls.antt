@@ -47,11 +47,13 @@ IsNoCall _ = Unit {0}
 
 -- a number, where it is a small integer
 abbrev pub IsNumberAnswer : ℤ → Result Value Stop → Type 0
-IsNumberAnswer n result = (texts : StrNo → Option (List ℕ)) (tuples : ConstNo → Option (List Value)) (heap : Heap Value ℕ) → plain_answer texts tuples heap result ≡ number_answer n
+IsNumberAnswer n result = (texts : StrNo → Option (List ℕ)) (tuples : ConstNo → Option (List Value)) (heap : Heap Value ℕ)
+    → plain_answer texts tuples heap result ≡ number_answer n
 
 -- what a get gives where these answers are pending
 abbrev pub IsTaken : List ℤ → Result Value Stop → Type 0
-IsTaken pending result = (texts : StrNo → Option (List ℕ)) (tuples : ConstNo → Option (List Value)) (heap : Heap Value ℕ) → plain_answer texts tuples heap result ≡ taken pending
+IsTaken pending result = (texts : StrNo → Option (List ℕ)) (tuples : ConstNo → Option (List Value)) (heap : Heap Value ℕ)
+    → plain_answer texts tuples heap result ≡ taken pending
 
 -- the number of the port that is called: what the first argument counts as
 abbrev pub called_number : List Value → Option ℤ
@@ -80,7 +82,8 @@ pub record IsListed (called : Option ℤ) (contents : List PortState) : Type 0 w
 
 -- the same whatever the constants and the heap are
 abbrev pub DoesPort : List PortView → Result Value Stop → PortOutcome → Type 0
-DoesPort new result outcome = (texts : StrNo → Option (List ℕ)) (tuples : ConstNo → Option (List Value)) (heap : Heap Value ℕ) → IsPortOutcome texts tuples heap new result outcome
+DoesPort new result outcome = (texts : StrNo → Option (List ℕ)) (tuples : ConstNo → Option (List Value)) (heap : Heap Value ℕ)
+    → IsPortOutcome texts tuples heap new result outcome
 
 -- a put, and a get, of the port that has a number
 abbrev pub put_at : List PortState → ℤ → ℤ → PortOutcome
@@ -118,7 +121,8 @@ module _ {T : Type 0} (C : Ghosts T) (consts : T) (arena : Heap Value ℕ) where
   DoesPorts old new result primitive =
       let see = sight C consts in
       let done = primitive (see.heap arena) see in
-      (contents : List PortState) → Tell old contents → (IsFailure result → HasFailure (done contents)) → IsPortOutcome see.texts see.tuples arena new result (done contents)
+      (contents : List PortState) → Tell old contents → (IsFailure result → HasFailure (done contents))
+      → IsPortOutcome see.texts see.tuples arena new result (done contents)
 
   abbrev pub FailsPorts : Option ℤ → Result Value Stop → (PlainHeap → Sight → List PortState → PortOutcome) → Type 0
   FailsPorts called result primitive = let see = sight C consts in FailsListed called result (primitive (see.heap arena) see)

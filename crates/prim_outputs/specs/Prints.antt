@@ -61,6 +61,7 @@ module _ {T : Type 0} (C : Ghosts T) (consts : T) (arena : Heap Value ℕ) where
   str_texts args = let see = sight C consts in (walk_all (str_of (see.heap arena)) (map see.value args)).answer
 
   -- a call over an arena prints what this does
-  abbrev pub DoesPrint : {S : Type 0} → (S → Option (List ℕ)) → (S → ℕ) → (old new : S) → Result Value PrintStop → (PlainHeap → Sight → Outcome (List ℕ)) → Type 0
+  abbrev pub DoesPrint : {S : Type 0} → (S → Option (List ℕ)) → (S → ℕ) → (old new : S) → Result Value PrintStop
+      → (PlainHeap → Sight → Outcome (List ℕ)) → Type 0
   DoesPrint told count old new result primitive =
       let see = sight C consts in IsPrint told count see.texts see.tuples arena old new result (primitive (see.heap arena) see)

@@ -30,7 +30,9 @@ fn new_end<C: Constants>(
     requires name { KnowsStr C.Constants consts.now arena.now name }
     requires leads { Leads arena.now.objects v }
     requires told { Tells C.Constants consts.now v }
-    ensures found { let see = sight C.Constants consts.now in (with_bytes : List ℕ → Ends) → if_new (see.bytes arena.now name) (option_map (see.bytes arena.now) old) (shown (see.heap arena.now) (see.value v)) with_bytes ≡ given_as see.texts see.tuples arena.now with_bytes result }
+    ensures found { let see = sight C.Constants consts.now in (with_bytes : List ℕ → Ends)
+        → if_new (see.bytes arena.now name) (option_map (see.bytes arena.now) old) (shown (see.heap arena.now) (see.value v)) with_bytes
+        ≡ given_as see.texts see.tuples arena.now with_bytes result }
     ensures str { IfOk result (KnowsStr C.Constants consts.now arena.now) }
     ensures known { IfErr result (KnowsFault C.Constants consts.now arena.now) }
 {
@@ -60,7 +62,9 @@ fn one_more<C: Constants>(
     requires strs { under C.Constants consts.now AreStrs arena.now given }
     requires name { Knows C.Constants consts.now arena.now name }
     requires value { Knows C.Constants consts.now arena.now v }
-    ensures found { let see = sight C.Constants consts.now in plain_found see.texts see.tuples arena.now result ≡ one_end (plain_ends see.texts see.tuples arena.now given) (shown (see.heap arena.now) (see.value name)) (shown (see.heap arena.now) (see.value v)) }
+    ensures found { let see = sight C.Constants consts.now in plain_found see.texts see.tuples arena.now result
+        ≡ one_end (plain_ends see.texts see.tuples arena.now given) (shown (see.heap arena.now) (see.value name))
+        (shown (see.heap arena.now) (see.value v)) }
     ensures known { under C.Constants consts.now IsKnownFound arena.now result }
 {
     let Some(bytes) = str_of(arena, consts, name) else {
@@ -94,7 +98,8 @@ pub(crate) fn given_by<C: Constants>(
     keys: &[(Value, Value)],
 ) -> Result<Given, Fault>
     requires known { KnowsPairs C.Constants consts.now arena.now keys.now }
-    ensures found { let see = sight C.Constants consts.now in plain_found see.texts see.tuples arena.now result ≡ ends_from (see.heap arena.now) (Ok nothing_given) (map see.pair keys.now) }
+    ensures found { let see = sight C.Constants consts.now in plain_found see.texts see.tuples arena.now result
+        ≡ ends_from (see.heap arena.now) (Ok nothing_given) (map see.pair keys.now) }
     ensures known { under C.Constants consts.now IsKnownFound arena.now result }
 {
     let mut given = Given {

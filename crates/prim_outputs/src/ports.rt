@@ -10,7 +10,9 @@ ghost use Rattle.prim_builtins.specs.arena_heap.Values.{Leads};
 ghost use Rattle.prim_builtins.specs.py_primitives.Output.{put_to, get_from, call_port, call_port_put as put_of, call_port_get as get_of};
 ghost use Rattle.prim_builtins.specs.prim_faults.Sights.{sight, KnowsAll, KnowsAnswer};
 ghost use Rattle.prim_builtins.specs.prim_operators.Operands.{number_in};
-ghost use Rattle.prim_outputs.specs.PortCalls.{DoesPorts, DoesTold, Failed, FailsListed, FailsPorts, IsFailure, calling_port, IsNoCall, IsNumberAnswer, IsPortAnswer, IsPortOutcome, IsTaken, called_number, get_at, put_at};
+ghost use Rattle.prim_outputs.specs.PortCalls.{DoesPorts, DoesTold, Failed, FailsListed, FailsPorts, IsFailure, calling_port};
+ghost use Rattle.prim_outputs.specs.PortCalls.{IsNoCall, IsNumberAnswer, IsPortAnswer, IsPortOutcome, IsTaken, called_number};
+ghost use Rattle.prim_outputs.specs.PortCalls.{get_at, put_at};
 
 use arena_heap::{Arena, Constants, Value};
 use mpy_io::Port;
@@ -66,7 +68,8 @@ fn put_value<C: Constants, P: Port>(
 ) -> Result<Value, Stop>
     requires leads { Leads arena.now.objects i }
     requires n_leads { Leads arena.now.objects n }
-    ensures told { DoesPorts C.Constants _consts.now arena.now (map P.seen ports.old) (map P.seen ports.new) result (λ heap see contents. put_of heap contents (see.value i) (see.value n)) }
+    ensures told { DoesPorts C.Constants _consts.now arena.now (map P.seen ports.old) (map P.seen ports.new) result
+        (λ heap see contents. put_of heap contents (see.value i) (see.value n)) }
     ensures known { KnowsAnswer C.Constants _consts.now arena.now result }
     ensures failed { IsFailure result → Failed (number_in i) (map P.seen ports.old) (map P.seen ports.new) }
     ensures refused { IsNoCall result → ports.new ≡ ports.old }
@@ -93,7 +96,8 @@ pub fn call_port_put<C: Constants, P: Port>(
 ) -> Result<Value, Stop>
     requires few { length args.now < 2 ^ 32 }
     requires known { KnowsAll C.Constants consts.now arena.now args.now }
-    ensures told { DoesPorts C.Constants consts.now arena.now (map P.seen ports.old) (map P.seen ports.new) result (calling_port builtins.PortPut args.now keys.now) }
+    ensures told { DoesPorts C.Constants consts.now arena.now (map P.seen ports.old) (map P.seen ports.new) result
+        (calling_port builtins.PortPut args.now keys.now) }
     ensures known { KnowsAnswer C.Constants consts.now arena.now result }
     ensures failed { IsFailure result → Failed (called_number args.now) (map P.seen ports.old) (map P.seen ports.new) }
     ensures refused { IsNoCall result → ports.new ≡ ports.old }
@@ -159,7 +163,8 @@ fn get_value<C: Constants, P: Port>(
     i: Value,
 ) -> Result<Value, Stop>
     requires leads { Leads arena.now.objects i }
-    ensures told { DoesPorts C.Constants _consts.now arena.now (map P.seen ports.old) (map P.seen ports.new) result (λ heap see contents. get_of heap contents (see.value i)) }
+    ensures told { DoesPorts C.Constants _consts.now arena.now (map P.seen ports.old) (map P.seen ports.new) result
+        (λ heap see contents. get_of heap contents (see.value i)) }
     ensures known { KnowsAnswer C.Constants _consts.now arena.now result }
     ensures failed { IsFailure result → Failed (number_in i) (map P.seen ports.old) (map P.seen ports.new) }
     ensures refused { IsNoCall result → ports.new ≡ ports.old }
@@ -182,7 +187,8 @@ pub fn call_port_get<C: Constants, P: Port>(
 ) -> Result<Value, Stop>
     requires few { length args.now < 2 ^ 32 }
     requires known { KnowsAll C.Constants consts.now arena.now args.now }
-    ensures told { DoesPorts C.Constants consts.now arena.now (map P.seen ports.old) (map P.seen ports.new) result (calling_port builtins.PortGet args.now keys.now) }
+    ensures told { DoesPorts C.Constants consts.now arena.now (map P.seen ports.old) (map P.seen ports.new) result
+        (calling_port builtins.PortGet args.now keys.now) }
     ensures known { KnowsAnswer C.Constants consts.now arena.now result }
     ensures failed { IsFailure result → Failed (called_number args.now) (map P.seen ports.old) (map P.seen ports.new) }
     ensures refused { IsNoCall result → ports.new ≡ ports.old }
@@ -216,7 +222,9 @@ pub fn call_port_count<C: Constants, P: Port>(
     keys: &[(Value, Value)],
 ) -> Result<Value, Stop>
     requires few { length args.now < 2 ^ 32 }
-    ensures told { let see = sight C.Constants consts.now in (contents : List PortState) → Tell (map P.seen ports.now) contents → IsPortOutcome see.texts see.tuples arena.now (map P.seen ports.now) result (call_port (see.heap arena.now) contents builtins.PortCount (map see.value args.now) (map see.pair keys.now)) }
+    ensures told { let see = sight C.Constants consts.now in (contents : List PortState) → Tell (map P.seen ports.now) contents
+        → IsPortOutcome see.texts see.tuples arena.now (map P.seen ports.now) result
+        (call_port (see.heap arena.now) contents builtins.PortCount (map see.value args.now) (map see.pair keys.now)) }
     ensures known { KnowsAnswer C.Constants consts.now arena.now result }
 {
     match only_so_many(0, args, keys) {

@@ -64,7 +64,8 @@ fn put_texts<P: Pen, C: Constants>(
     requires all_told { TellsAll C.Constants consts.now arena.now }
     requires ascii { All (λ b. b < 128) sep.now }
     requires end { is_some (str_texts C.Constants consts.now arena.now args.now) ≡ true }
-    ensures { (texts : List (List ℕ)) → str_texts C.Constants consts.now arena.now args.now ≡ Some texts → Wrote P.Takes pen.old (joined sep.now texts) pen.new }
+    ensures { (texts : List (List ℕ)) → str_texts C.Constants consts.now arena.now args.now ≡ Some texts
+        → Wrote P.Takes pen.old (joined sep.now texts) pen.new }
 {
     for (at, v) in args.iter().enumerate() {
         put_separator(pen, sep, at);
@@ -89,7 +90,9 @@ fn write_line<S: Sink, C: Constants>(
     requires last { All (λ b. b < 128) last.now }
     requires end { is_some (str_texts C.Constants consts.now arena.now args.now) ≡ true }
     ensures same_reference { printer.new.out.ghost_name ≡ printer.old.out.ghost_name }
-    ensures puts { (texts : List (List ℕ)) → str_texts C.Constants consts.now arena.now args.now ≡ Some texts → PutsOn S.told S.count printer.old.failed printer.old.out.now printer.new.out.now printer.new.failed (joined sep.now texts ++ last.now) }
+    ensures puts { (texts : List (List ℕ)) → str_texts C.Constants consts.now arena.now args.now ≡ Some texts
+        → PutsOn S.told S.count printer.old.failed printer.old.out.now printer.new.out.now printer.new.failed (joined sep.now texts
+        ++ last.now) }
 {
     put_texts(arena, consts, args, sep, printer);
     printer.put(last);
@@ -109,7 +112,8 @@ fn put_line<S: Sink, C: Constants>(
     requires sep { All (λ b. b < 128) sep.now }
     requires last { All (λ b. b < 128) last.now }
     requires end { is_some (str_texts C.Constants consts.now arena.now args.now) ≡ true }
-    ensures { (texts : List (List ℕ)) → str_texts C.Constants consts.now arena.now args.now ≡ Some texts → Puts S.told S.count out.old out.new (is_err result) (joined sep.now texts ++ last.now) }
+    ensures { (texts : List (List ℕ)) → str_texts C.Constants consts.now arena.now args.now ≡ Some texts
+        → Puts S.told S.count out.old out.new (is_err result) (joined sep.now texts ++ last.now) }
 {
     let mut printer = Printer::new(out);
     write_line(arena, consts, args, sep, last, &mut printer);
@@ -145,7 +149,8 @@ fn print_with<S: Sink, C: Constants>(
     requires known { KnowsAll C.Constants consts.now arena.now args.now }
     requires all_told { TellsAll C.Constants consts.now arena.now }
     requires strs { under C.Constants consts.now AreStrs arena.now given }
-    ensures { DoesPrint C.Constants consts.now arena.now S.told S.count out.old out.new result (λ heap see. printed_with heap (map see.value args.now) (Ok (plain_ends see.texts see.tuples arena.now given))) }
+    ensures { DoesPrint C.Constants consts.now arena.now S.told S.count out.old out.new result
+        (λ heap see. printed_with heap (map see.value args.now) (Ok (plain_ends see.texts see.tuples arena.now given))) }
 {
     if !all_end(arena, consts, args) {
         return Err(PrintStop::Raises(Fault::TooDeep));
@@ -169,7 +174,8 @@ pub fn call_print<S: Sink, C: Constants>(
     requires known { KnowsAll C.Constants consts.now arena.now args.now }
     requires known_keys { KnowsPairs C.Constants consts.now arena.now keys.now }
     requires all_told { TellsAll C.Constants consts.now arena.now }
-    ensures { DoesPrint C.Constants consts.now arena.now S.told S.count out.old out.new result (λ heap see. printed heap (map see.value args.now) (map see.pair keys.now)) }
+    ensures { DoesPrint C.Constants consts.now arena.now S.told S.count out.old out.new result
+        (λ heap see. printed heap (map see.value args.now) (map see.pair keys.now)) }
 {
     match given_by(arena, consts, keys) {
         Ok(given) => print_with(arena, consts, out, args, given),

@@ -64,7 +64,8 @@ fn argument_count<C: Constants>(arena: &Arena, consts: &C, args: Value) -> u32
     requires leads { Leads arena.now.objects args }
     requires told { Tells C.Constants consts.now args }
     ensures count { result ≡ length (items_in (C.items_of consts.now) arena.now args) }
-    ensures items { let see = sight C.Constants consts.now in items_of_tuple (shown (see.heap arena.now) (see.value args)) ≡ map see.value (items_in see.tuples arena.now args) }
+    ensures items { let see = sight C.Constants consts.now in items_of_tuple (shown (see.heap arena.now) (see.value args))
+        ≡ map see.value (items_in see.tuples arena.now args) }
 {
     match look_at(arena, consts, args) {
         Look::Tuple(count) => count,
@@ -78,7 +79,9 @@ fn write_arguments<P: Pen, C: Constants>(arena: &Arena, consts: &C, args: Value,
     requires leads { Leads arena.now.objects args }
     requires told { Tells C.Constants consts.now args }
     requires all_told { TellsAll C.Constants consts.now arena.now }
-    ensures { let see = sight C.Constants consts.now in Wrote P.Takes pen.old (arguments_text (see.heap arena.now) (items_of_tuple (shown (see.heap arena.now) (see.value args)))) pen.new }
+    ensures { let see = sight C.Constants consts.now
+        in Wrote P.Takes pen.old
+        (arguments_text (see.heap arena.now) (items_of_tuple (shown (see.heap arena.now) (see.value args)))) pen.new }
 {
     let count = argument_count(arena, consts, args);
     if count == 0 {
@@ -123,7 +126,8 @@ fn print_report<S: Sink, C: Constants>(
     requires exception { IsA arena.now.objects AnException x.cell }
     requires all_told { TellsAll C.Constants consts.now arena.now }
     ensures same_reference { printer.new.out.ghost_name ≡ printer.old.out.ghost_name }
-    ensures puts { PutsOn S.told S.count printer.old.failed printer.old.out.now printer.new.out.now printer.new.failed (end_report ((sight C.Constants consts.now).heap arena.now) (Raised x.cell)) }
+    ensures puts { PutsOn S.told S.count printer.old.failed printer.old.out.now printer.new.out.now printer.new.failed
+        (end_report ((sight C.Constants consts.now).heap arena.now) (Raised x.cell)) }
 {
     write_report(arena, consts, x, printer)
 }

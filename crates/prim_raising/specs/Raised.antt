@@ -13,7 +13,8 @@ use Rattle.prim_raising.specs.declared.raising.Raised.TheVariants as raised
 -- a value that names no kind and is no exception
 abbrev pub IsNothing : Heap Value ℕ → Value → Type 0
 IsNothing heap v =
-    (texts : StrNo → Option (List ℕ)) (tuples : ConstNo → Option (List Value)) → (named_kind (plain texts tuples v) ≡ None) × (exception_kind (plain_heap texts tuples heap) (plain texts tuples v) ≡ None)
+    (texts : StrNo → Option (List ℕ)) (tuples : ConstNo → Option (List Value))
+    → (named_kind (plain texts tuples v) ≡ None) × (exception_kind (plain_heap texts tuples heap) (plain texts tuples v) ≡ None)
 
 -- what raising the value raises: a new exception of a kind, the exception that it is, or nothing
 abbrev pub IsRaised : Heap Value ℕ → Value → Raised → Type 0

@@ -22,7 +22,9 @@ fn fault_argument<C: Constants>(
 ) -> Result<Value, NoRoom>
     requires known { KnowsFault C.Constants consts.now arena.old fault }
     requires all_told { TellsAll C.Constants consts.now arena.old }
-    ensures { Does C.Constants consts.now arena.old arena.new (as_value (λ v. v) result) (λ heap see. let plain = under C.Constants consts.now plain_fault arena.old fault in argument_of_fault heap plain (fault_value plain)) }
+    ensures { Does C.Constants consts.now arena.old arena.new (as_value (λ v. v) result)
+        (λ heap see. let plain = under C.Constants consts.now plain_fault arena.old fault
+        in argument_of_fault heap plain (fault_value plain)) }
 {
     match fault {
         Fault::NoKey(key) => Ok(key),
@@ -58,7 +60,8 @@ pub(crate) fn make_exception<C: Constants>(
     requires told { Tells C.Constants consts.now args }
     requires tuple { IsTuple args }
     requires all_told { TellsAll C.Constants consts.now arena.old }
-    ensures { Does C.Constants consts.now arena.old arena.new (as_value values.Exc result) (λ heap see. making heap (ExceptionObject kind (see.value args) [] 0 [])) }
+    ensures { Does C.Constants consts.now arena.old arena.new (as_value values.Exc result)
+        (λ heap see. making heap (ExceptionObject kind (see.value args) [] 0 [])) }
 {
     consts.empty_law();
     match arena.make_exc(kind, args) {
@@ -93,7 +96,8 @@ pub(crate) fn make_fault<C: Constants>(
 ) -> Result<ExcNo, NoRoom>
     requires known { KnowsFault C.Constants consts.now arena.old fault }
     requires all_told { TellsAll C.Constants consts.now arena.old }
-    ensures { Does C.Constants consts.now arena.old arena.new (as_value values.Exc result) (λ heap see. making_fault heap (under C.Constants consts.now plain_fault arena.old fault)) }
+    ensures { Does C.Constants consts.now arena.old arena.new (as_value values.Exc result)
+        (λ heap see. making_fault heap (under C.Constants consts.now plain_fault arena.old fault)) }
 {
     match fault_argument(arena, consts, fault) {
         Ok(v) => make_with_argument(arena, consts, fault_kind(fault), v),

@@ -83,7 +83,8 @@ pub fn fault_at<C: Constants>(
 ) -> Result<ExcNo, NoRoom>
     requires stands { under C.Constants consts.now Stands arena.old [] }
     requires known { KnowsFault C.Constants consts.now arena.old fault }
-    ensures { under C.Constants consts.now HasFailed arena.old arena.new result (λ w see. fault_at_place (plain_place see place) w (under C.Constants consts.now plain_fault arena.old fault)) }
+    ensures { under C.Constants consts.now HasFailed arena.old arena.new result
+        (λ w see. fault_at_place (plain_place see place) w (under C.Constants consts.now plain_fault arena.old fault)) }
 {
     match make_fault(arena, consts, fault) {
         Ok(x) => {
@@ -103,7 +104,8 @@ pub fn stop_at<C: Constants>(
 ) -> Result<ExcNo, NoRoom>
     requires stands { under C.Constants consts.now Stands arena.old [] }
     requires known { KnowsAnswer C.Constants consts.now arena.old (Err stop) }
-    ensures { under C.Constants consts.now HasFailed arena.old arena.new result (λ w see. stopped_at (plain_place see place) w (under C.Constants consts.now plain_stop arena.old stop)) }
+    ensures { under C.Constants consts.now HasFailed arena.old arena.new result
+        (λ w see. stopped_at (plain_place see place) w (under C.Constants consts.now plain_stop arena.old stop)) }
 {
     match stop {
         Stop::Raises(fault) => fault_at(arena, consts, place, fault),
@@ -119,7 +121,8 @@ fn raise_kind<C: Constants>(
     kind: Kind,
 ) -> Result<ExcNo, NoRoom>
     requires { under C.Constants consts.now Stands arena.old [] }
-    ensures { under C.Constants consts.now HasFailed arena.old arena.new result (λ w see. raise_made (plain_place see place) w (making w.heap (ExceptionObject kind Empty [] 0 []))) }
+    ensures { under C.Constants consts.now HasFailed arena.old arena.new result
+        (λ w see. raise_made (plain_place see place) w (making w.heap (ExceptionObject kind Empty [] 0 []))) }
 {
     match make_exception(arena, consts, kind, Value::Empty) {
         Ok(x) => {

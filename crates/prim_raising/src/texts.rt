@@ -106,7 +106,8 @@ pub(crate) fn make_fault_text<C: Constants>(
 ) -> Result<Value, NoRoom>
     requires known { KnowsFault C.Constants consts.now arena.old fault }
     requires all_told { TellsAll C.Constants consts.now arena.old }
-    ensures { Does C.Constants consts.now arena.old arena.new (as_value (λ v. v) result) (λ heap see. making_text heap (fault_text (under C.Constants consts.now plain_fault arena.old fault))) }
+    ensures { Does C.Constants consts.now arena.old arena.new (as_value (λ v. v) result)
+        (λ heap see. making_text heap (fault_text (under C.Constants consts.now plain_fault arena.old fault))) }
 {
     let len = fault_len(arena, consts, fault);
     if len == 0 {

@@ -15,4 +15,6 @@ abbrev pub IsNoStr : Heap Value ℕ → Value → Value → Fault → Type 0
 IsNoStr heap object v fault =
     (texts : StrNo → Option (List ℕ)) (tuples : ConstNo → Option (List Value))
     → IsKnownFault texts tuples heap.objects fault
-    × (plain_fault texts tuples heap fault ≡ Unsupported (codes "__contains__") (type_name (plain_heap texts tuples heap) (plain texts tuples object)) (type_name (plain_heap texts tuples heap) (plain texts tuples v)))
+    × (plain_fault texts tuples heap fault
+    ≡ Unsupported (codes "__contains__") (type_name (plain_heap texts tuples heap) (plain texts tuples object))
+    (type_name (plain_heap texts tuples heap) (plain texts tuples v)))

@@ -63,7 +63,8 @@ in_front zero separator = []
 in_front (suc at) separator = separator
 
 -- what joins the strs of an iterable in a text: the text is neither the separator nor one of those
-pub record CanJoin (texts : StrNo → Option (List ℕ)) (tuples : ConstNo → Option (List Value)) (heap : Heap Value ℕ) (t : ℕ) (separator : Cut) (over : Value) : Type 0 where
+pub record CanJoin (texts : StrNo → Option (List ℕ)) (tuples : ConstNo
+    → Option (List Value)) (heap : Heap Value ℕ) (t : ℕ) (separator : Cut) (over : Value) : Type 0 where
   pub text : IsA heap.objects AText t
   pub cut : IsCut texts tuples heap separator
   pub known : IsKnown texts tuples heap.objects over

@@ -41,7 +41,8 @@ IsSplit texts tuples heap splits.Words = Unit {0}
 IsSplit texts tuples heap (splits.By separator) = IsKnownStr texts tuples heap.objects separator × (0 < length (spelled texts heap separator))
 
 -- the first piece from a place on
-pub record IsPiece (texts : StrNo → Option (List ℕ)) (tuples : ConstNo → Option (List Value)) (heap : Heap Value ℕ) (split : Split) (object : Value) (at : ℕ) (piece : Piece) : Type 0 where
+pub record IsPiece (texts : StrNo → Option (List ℕ)) (tuples : ConstNo
+    → Option (List Value)) (heap : Heap Value ℕ) (split : Split) (object : Value) (at : ℕ) (piece : Piece) : Type 0 where
   pub cut : IsCut texts tuples heap piece.cut
   pub of : piece.cut.of ≡ object
   pub first : pieces_from texts heap split object at ≡ cut_bytes texts heap piece.cut ∷ pieces_from texts heap split object piece.next

@@ -34,7 +34,9 @@ fn find_in<C: Constants>(arena: &Arena, consts: &C, object: Value, v: Value) -> 
     requires leads { Leads arena.now.objects v }
     requires told { Tells C.Constants consts.now v }
     requires all_told { TellsAll C.Constants consts.now arena.now }
-    ensures { Does C.Constants consts.now arena.now arena.now result (λ heap see. of_str heap (see.value object) (see.value v) (shown heap (see.value v)) (λ part. gives_number heap (checked (found_from 0 part (see.bytes arena.now object))))) }
+    ensures { Does C.Constants consts.now arena.now arena.now result
+        (λ heap see. of_str heap (see.value object) (see.value v) (shown heap (see.value v))
+        (λ part. gives_number heap (checked (found_from 0 part (see.bytes arena.now object))))) }
 {
     match look_at(arena, consts, v) {
         Look::Text(part) => place_in(text_bytes(arena, consts, object), part),

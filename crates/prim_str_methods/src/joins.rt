@@ -36,7 +36,9 @@ fn joined_len<C: Constants>(arena: &Arena, consts: &C, separator: Value, over: V
     requires separator { KnowsStr C.Constants consts.now arena.now separator }
     requires over { Knows C.Constants consts.now arena.now over }
     requires all_told { TellsAll C.Constants consts.now arena.now }
-    ensures len { let see = sight C.Constants consts.now in result ≡ option_map (λ parts. min (length (joined (see.bytes arena.now separator) parts)) (2 ^ 64 - 1)) (all_strs (strs_of (see.heap arena.now) (see.value over))) }
+    ensures len { let see = sight C.Constants consts.now in result
+        ≡ option_map (λ parts. min (length (joined (see.bytes arena.now separator) parts)) (2 ^ 64 - 1))
+        (all_strs (strs_of (see.heap arena.now) (see.value over))) }
     ensures known { OnSome result (All (KnowsStr C.Constants consts.now arena.now) (items_in (C.items_of consts.now) arena.now over)) }
 {
     items_law(arena, consts, over);
@@ -65,7 +67,9 @@ fn put_separator<C: Constants>(
     requires apart { IsOtherThan t.cell separator.of }
     requires room { from + length (in_front at (cut_bytes (C.text_of consts.now) arena.old separator)) ≤ length (text_at arena.old t.cell) }
     requires few { length (text_at arena.old t.cell) < 2 ^ 32 }
-    ensures put { arena.new ≡ with_text arena.old t.cell (written (text_at arena.old t.cell) from (in_front at (cut_bytes (C.text_of consts.now) arena.old separator))) }
+    ensures put { arena.new
+        ≡ with_text arena.old t.cell
+        (written (text_at arena.old t.cell) from (in_front at (cut_bytes (C.text_of consts.now) arena.old separator))) }
     ensures place { result ≡ from + length (in_front at (cut_bytes (C.text_of consts.now) arena.old separator)) }
 {
     if at == 0 {
@@ -87,10 +91,16 @@ fn put_part<C: Constants>(
 ) -> u32
     requires join { under C.Constants consts.now CanJoin arena.old t.cell separator over }
     requires within { at < length (parts_in (C.text_of consts.now) arena.old (C.items_of consts.now) over) }
-    requires room { from + length (in_front at (cut_bytes (C.text_of consts.now) arena.old separator) ++ slice_index_or (parts_in (C.text_of consts.now) arena.old (C.items_of consts.now) over) at []) ≤ length (text_at arena.old t.cell) }
+    requires room { from + length (in_front at (cut_bytes (C.text_of consts.now) arena.old separator)
+        ++ slice_index_or (parts_in (C.text_of consts.now) arena.old (C.items_of consts.now) over) at [])
+        ≤ length (text_at arena.old t.cell) }
     requires few { length (text_at arena.old t.cell) < 2 ^ 32 }
-    ensures put { arena.new ≡ with_text arena.old t.cell (written (text_at arena.old t.cell) from (in_front at (cut_bytes (C.text_of consts.now) arena.old separator) ++ slice_index_or (parts_in (C.text_of consts.now) arena.old (C.items_of consts.now) over) at [])) }
-    ensures place { result ≡ from + length (in_front at (cut_bytes (C.text_of consts.now) arena.old separator) ++ slice_index_or (parts_in (C.text_of consts.now) arena.old (C.items_of consts.now) over) at []) }
+    ensures put { arena.new
+        ≡ with_text arena.old t.cell
+        (written (text_at arena.old t.cell) from (in_front at (cut_bytes (C.text_of consts.now) arena.old separator)
+        ++ slice_index_or (parts_in (C.text_of consts.now) arena.old (C.items_of consts.now) over) at [])) }
+    ensures place { result ≡ from + length (in_front at (cut_bytes (C.text_of consts.now) arena.old separator)
+        ++ slice_index_or (parts_in (C.text_of consts.now) arena.old (C.items_of consts.now) over) at []) }
 {
     let part = part_at(arena, consts, over, at);
     let behind = put_separator(arena, consts, t, from, at, separator);
@@ -109,9 +119,13 @@ fn put_parts<C: Constants>(
 )
     requires join { under C.Constants consts.now CanJoin arena.old t.cell separator over }
     requires count { count ≡ length (parts_in (C.text_of consts.now) arena.old (C.items_of consts.now) over) }
-    requires room { length (joined (cut_bytes (C.text_of consts.now) arena.old separator) (parts_in (C.text_of consts.now) arena.old (C.items_of consts.now) over)) ≡ length (text_at arena.old t.cell) }
+    requires room { length (joined (cut_bytes (C.text_of consts.now) arena.old separator)
+        (parts_in (C.text_of consts.now) arena.old (C.items_of consts.now) over)) ≡ length (text_at arena.old t.cell) }
     requires few { length (text_at arena.old t.cell) < 2 ^ 32 }
-    ensures put { arena.new ≡ with_text arena.old t.cell (joined (cut_bytes (C.text_of consts.now) arena.old separator) (parts_in (C.text_of consts.now) arena.old (C.items_of consts.now) over)) }
+    ensures put { arena.new
+        ≡ with_text arena.old t.cell
+        (joined (cut_bytes (C.text_of consts.now) arena.old separator)
+        (parts_in (C.text_of consts.now) arena.old (C.items_of consts.now) over)) }
     ensures later { Later arena.old.objects arena.new.objects }
 {
     let mut from = 0;
@@ -132,8 +146,10 @@ fn make_joined<C: Constants>(
     requires over { Knows C.Constants consts.now arena.old over }
     requires strs { All (KnowsStr C.Constants consts.now arena.old) (items_in (C.items_of consts.now) arena.old over) }
     requires all_told { TellsAll C.Constants consts.now arena.old }
-    requires len { let see = sight C.Constants consts.now in len ≡ min (length (joined (see.bytes arena.old separator) (parts_in see.texts arena.old see.tuples over))) (2 ^ 64 - 1) }
-    ensures { Does C.Constants consts.now arena.old arena.new result (λ heap see. making_text heap (joined (see.bytes arena.old separator) (parts_in see.texts arena.old see.tuples over))) }
+    requires len { let see = sight C.Constants consts.now in len
+        ≡ min (length (joined (see.bytes arena.old separator) (parts_in see.texts arena.old see.tuples over))) (2 ^ 64 - 1) }
+    ensures { Does C.Constants consts.now arena.old arena.new result
+        (λ heap see. making_text heap (joined (see.bytes arena.old separator) (parts_in see.texts arena.old see.tuples over))) }
 {
     if len == 0 {
         consts.empty_law();
@@ -161,7 +177,9 @@ fn join_strs<C: Constants>(
     requires separator { KnowsStr C.Constants consts.now arena.old separator }
     requires over { Knows C.Constants consts.now arena.old over }
     requires all_told { TellsAll C.Constants consts.now arena.old }
-    ensures { Does C.Constants consts.now arena.old arena.new result (λ heap see. after_walk heap (parts_of heap (or_nothing (plain_items_in heap (see.value over)))) (gives_joined heap (see.bytes arena.old separator))) }
+    ensures { Does C.Constants consts.now arena.old arena.new result
+        (λ heap see. after_walk heap (parts_of heap (or_nothing (plain_items_in heap (see.value over))))
+        (gives_joined heap (see.bytes arena.old separator))) }
 {
     match joined_len(arena, consts, separator, over) {
         Some(len) => {
@@ -181,7 +199,9 @@ fn join_in<C: Constants>(
     requires separator { KnowsStr C.Constants consts.now arena.old separator }
     requires over { Knows C.Constants consts.now arena.old over }
     requires all_told { TellsAll C.Constants consts.now arena.old }
-    ensures { Does C.Constants consts.now arena.old arena.new result (λ heap see. iterating heap (see.value over) (λ items. after_walk heap (parts_of heap items) (gives_joined heap (see.bytes arena.old separator)))) }
+    ensures { Does C.Constants consts.now arena.old arena.new result
+        (λ heap see. iterating heap (see.value over)
+        (λ items. after_walk heap (parts_of heap items) (gives_joined heap (see.bytes arena.old separator)))) }
 {
     match use_iter(arena, consts, over) {
         Ok(_) => join_strs(arena, consts, separator, over),

@@ -43,8 +43,10 @@ fn item_len<C: Constants>(arena: &Arena, consts: &C, over: Value, at: u32) -> Op
     requires all_told { TellsAll C.Constants consts.now arena.now }
     requires other { IsStr over → ⊥ }
     requires within { at < length (items_in (C.items_of consts.now) arena.now over) }
-    ensures len { let see = sight C.Constants consts.now in result ≡ option_map length (slice_index_or (strs_of (see.heap arena.now) (see.value over)) at None) }
-    ensures known { OnSome result ((v : Item) → slice_get (items_in (C.items_of consts.now) arena.now over) at ≡ Some v → KnowsStr C.Constants consts.now arena.now v) }
+    ensures len { let see = sight C.Constants consts.now in result
+        ≡ option_map length (slice_index_or (strs_of (see.heap arena.now) (see.value over)) at None) }
+    ensures known { OnSome result ((v : Item) → slice_get (items_in (C.items_of consts.now) arena.now over) at ≡ Some v
+        → KnowsStr C.Constants consts.now arena.now v) }
 {
     items_law(arena, consts, over);
     let item = item_at(arena, consts, over, at);
@@ -60,8 +62,10 @@ pub(crate) fn part_len<C: Constants>(arena: &Arena, consts: &C, over: Value, at:
     requires over { Knows C.Constants consts.now arena.now over }
     requires all_told { TellsAll C.Constants consts.now arena.now }
     requires within { let see = sight C.Constants consts.now in at < length (strs_of (see.heap arena.now) (see.value over)) }
-    ensures len { let see = sight C.Constants consts.now in result ≡ option_map length (slice_index_or (strs_of (see.heap arena.now) (see.value over)) at None) }
-    ensures known { OnSome result ((v : Item) → slice_get (items_in (C.items_of consts.now) arena.now over) at ≡ Some v → KnowsStr C.Constants consts.now arena.now v) }
+    ensures len { let see = sight C.Constants consts.now in result
+        ≡ option_map length (slice_index_or (strs_of (see.heap arena.now) (see.value over)) at None) }
+    ensures known { OnSome result ((v : Item) → slice_get (items_in (C.items_of consts.now) arena.now over) at ≡ Some v
+        → KnowsStr C.Constants consts.now arena.now v) }
 {
     if is_str(over) {
         return Some(1);
@@ -76,7 +80,8 @@ pub(crate) fn part_at<C: Constants>(arena: &Arena, consts: &C, over: Value, at: 
     requires all_told { TellsAll C.Constants consts.now arena.now }
     requires strs { All (KnowsStr C.Constants consts.now arena.now) (items_in (C.items_of consts.now) arena.now over) }
     requires within { at < length (parts_in (C.text_of consts.now) arena.now (C.items_of consts.now) over) }
-    ensures bytes { cut_bytes (C.text_of consts.now) arena.now result ≡ slice_index_or (parts_in (C.text_of consts.now) arena.now (C.items_of consts.now) over) at [] }
+    ensures bytes { cut_bytes (C.text_of consts.now) arena.now result
+        ≡ slice_index_or (parts_in (C.text_of consts.now) arena.now (C.items_of consts.now) over) at [] }
     ensures cut { under C.Constants consts.now IsCut arena.now result }
     ensures apart { (t : ℕ) → IsOtherThan t over → All (IsOtherThan t) (items_in (C.items_of consts.now) arena.now over) → IsOtherThan t result.of }
 {

@@ -9,7 +9,8 @@ ghost use Rattle.prim_builtins.specs.py_values.Shown.{shown};
 ghost use Rattle.prim_builtins.specs.py_primitives.Methods.{str_method, list_of_texts, of_str, split_by};
 ghost use Rattle.prim_builtins.specs.prim_faults.Sights.{under, calling_method, Tells, TellsAll, Knows, KnowsAll, KnowsStr, Does};
 ghost use Rattle.prim_str_methods.specs.Parts.{IsCut, cut_bytes};
-ghost use Rattle.prim_str_methods.specs.Pieces.{IsSplit, pieces_from, piece_value, piece_values, cell_behind, cells_behind, with_piece, with_pieces, FitsPiece, FitPieces, PieceRefused, PiecesRefused};
+ghost use Rattle.prim_str_methods.specs.Pieces.{IsSplit, pieces_from, piece_value, piece_values, cell_behind, cells_behind};
+ghost use Rattle.prim_str_methods.specs.Pieces.{with_piece, with_pieces, FitsPiece, FitPieces, PieceRefused, PiecesRefused};
 
 use crate::arguments::no_str;
 use crate::cuts::{Cut, put_cut, str_len};
@@ -140,7 +141,9 @@ fn fill_list<C: Constants>(
     requires split { under C.Constants consts.now IsSplit arena.old split }
     requires empty { items_at arena.old l.cell ≡ [] }
     requires room { length (pieces_from (C.text_of consts.now) arena.old split object 0) ≤ room_at arena.old l.cell }
-    ensures ok { OnOk result (arena.new ≡ with_list (with_pieces arena.old (pieces_from (C.text_of consts.now) arena.old split object 0)) l.cell (piece_values (used arena.old) (pieces_from (C.text_of consts.now) arena.old split object 0))) }
+    ensures ok { OnOk result (arena.new
+        ≡ with_list (with_pieces arena.old (pieces_from (C.text_of consts.now) arena.old split object 0)) l.cell
+        (piece_values (used arena.old) (pieces_from (C.text_of consts.now) arena.old split object 0))) }
     ensures fits { OnOk result (FitPieces arena.old (pieces_from (C.text_of consts.now) arena.old split object 0)) }
     ensures refused { IfErr result (λ e. PiecesRefused arena.old arena.new e (pieces_from (C.text_of consts.now) arena.old split object 0)) }
 {
@@ -185,7 +188,8 @@ fn split_between<C: Constants>(
     requires object { KnowsStr C.Constants consts.now arena.old object }
     requires known { Knows C.Constants consts.now arena.old v }
     requires all_told { TellsAll C.Constants consts.now arena.old }
-    ensures { Does C.Constants consts.now arena.old arena.new result (λ heap see. of_str heap (see.value object) (see.value v) (shown heap (see.value v)) (split_by heap (see.bytes arena.old object))) }
+    ensures { Does C.Constants consts.now arena.old arena.new result
+        (λ heap see. of_str heap (see.value object) (see.value v) (shown heap (see.value v)) (split_by heap (see.bytes arena.old object))) }
 {
     if !is_str(v) {
         return Err(Stop::Raises(no_str(arena, object, v)));
@@ -207,7 +211,8 @@ fn split_with<C: Constants>(
     requires known { KnowsAll C.Constants consts.now arena.old args.now }
     requires all_told { TellsAll C.Constants consts.now arena.old }
     requires few { length args.now ≤ 1 }
-    ensures { Does C.Constants consts.now arena.old arena.new result (λ heap see. str_method heap builtins.StrSplit (see.value object) (see.bytes arena.old object) (map see.value args.now)) }
+    ensures { Does C.Constants consts.now arena.old arena.new result
+        (λ heap see. str_method heap builtins.StrSplit (see.value object) (see.bytes arena.old object) (map see.value args.now)) }
 {
     if args.is_empty() {
         split_pieces(arena, consts, object, Split::Words)

@@ -35,7 +35,9 @@ fn starts_in<C: Constants>(
     requires leads { Leads arena.now.objects v }
     requires told { Tells C.Constants consts.now v }
     requires all_told { TellsAll C.Constants consts.now arena.now }
-    ensures { Does C.Constants consts.now arena.now arena.now result (λ heap see. of_str heap (see.value object) (see.value v) (shown heap (see.value v)) (λ part. gives (Truth (starts_with nat_eq (see.bytes arena.now object) part)) heap)) }
+    ensures { Does C.Constants consts.now arena.now arena.now result
+        (λ heap see. of_str heap (see.value object) (see.value v) (shown heap (see.value v))
+        (λ part. gives (Truth (starts_with nat_eq (see.bytes arena.now object) part)) heap)) }
 {
     match look_at(arena, consts, v) {
         Look::Text(part) => {

@@ -23,4 +23,6 @@ module _ (texts : StrNo → Option (List ℕ)) (tuples : ConstNo → Option (Lis
 
   -- the text of the value stays, whatever bytes this text of the arena has
   abbrev pub IsApart : ℕ → Type 0
-  IsApart t = (bytes : List ℕ) → text_of (plain_heap texts tuples (with_text heap t bytes)) raw (plain texts tuples v) ≡ text_of (plain_heap texts tuples heap) raw (plain texts tuples v)
+  IsApart t = (bytes : List ℕ)
+      → text_of (plain_heap texts tuples (with_text heap t bytes)) raw (plain texts tuples v)
+      ≡ text_of (plain_heap texts tuples heap) raw (plain texts tuples v)

@@ -27,12 +27,14 @@ IsExceptionKind heap v kind =
 -- is the value a number?
 abbrev pub DecidesNumber : Heap Value ℕ → Value → Bool → Type 0
 DecidesNumber heap v answer =
-    (texts : StrNo → Option (List ℕ)) (tuples : ConstNo → Option (List Value)) → is_number (shown (plain_heap texts tuples heap) (plain texts tuples v)) ≡ answer
+    (texts : StrNo → Option (List ℕ)) (tuples : ConstNo → Option (List Value))
+    → is_number (shown (plain_heap texts tuples heap) (plain texts tuples v)) ≡ answer
 
 -- is a value an exception of this kind, or of one below it?
 abbrev pub DecidesKind : Heap Value ℕ → Value → Kind → Bool → Type 0
 DecidesKind heap v kind answer =
-    (texts : StrNo → Option (List ℕ)) (tuples : ConstNo → Option (List Value)) → is_exception_of (exception_kind (plain_heap texts tuples heap) (plain texts tuples v)) kind ≡ answer
+    (texts : StrNo → Option (List ℕ)) (tuples : ConstNo → Option (List Value))
+    → is_exception_of (exception_kind (plain_heap texts tuples heap) (plain texts tuples v)) kind ≡ answer
 
 -- is the value an instance of this type?
 abbrev pub DecidesInstance : Heap Value ℕ → Value → Builtin → Bool → Type 0

@@ -13,7 +13,8 @@ use prim_operators::{Arena, Constants, Stop, Value};
 
 fn make_dict<C: Constants>(arena: &mut Arena, _consts: &C) -> Result<Value, Stop>
     requires all_told { AllTold (C.text_of _consts.now) (C.items_of _consts.now) arena.old.objects }
-    ensures { IsOutcome (C.text_of _consts.now) (C.items_of _consts.now) arena.old arena.new result (dict_in (plain_heap (C.text_of _consts.now) (C.items_of _consts.now) arena.old)) }
+    ensures { IsOutcome (C.text_of _consts.now) (C.items_of _consts.now) arena.old arena.new result
+        (dict_in (plain_heap (C.text_of _consts.now) (C.items_of _consts.now) arena.old)) }
 {
     match arena.make_dict(0) {
         Ok(dict) => Ok(Value::Dict(dict)),
@@ -31,7 +32,10 @@ pub fn call_dict<C: Constants>(
     requires few { length args.now < 2 ^ 32 }
     requires known { All (IsKnown (C.text_of consts.now) (C.items_of consts.now) arena.old.objects) args.now }
     requires all_told { AllTold (C.text_of consts.now) (C.items_of consts.now) arena.old.objects }
-    ensures { IsOutcome (C.text_of consts.now) (C.items_of consts.now) arena.old arena.new result (call (plain_heap (C.text_of consts.now) (C.items_of consts.now) arena.old) builtins.Dict (map (plain (C.text_of consts.now) (C.items_of consts.now)) args.now) (map (plain_pair (C.text_of consts.now) (C.items_of consts.now)) keys.now)) }
+    ensures { IsOutcome (C.text_of consts.now) (C.items_of consts.now) arena.old arena.new result
+        (call (plain_heap (C.text_of consts.now) (C.items_of consts.now) arena.old) builtins.Dict
+        (map (plain (C.text_of consts.now) (C.items_of consts.now)) args.now)
+        (map (plain_pair (C.text_of consts.now) (C.items_of consts.now)) keys.now)) }
 {
     match only_so_many(0, args, keys) {
         Ok(()) => make_dict(arena, consts),

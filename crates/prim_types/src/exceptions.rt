@@ -48,7 +48,9 @@ pub fn make_tuple<C: Constants>(
     requires few { length args.now < 2 ^ 32 }
     requires known { All (IsKnown (C.text_of consts.now) (C.items_of consts.now) arena.old.objects) args.now }
     requires all_told { AllTold (C.text_of consts.now) (C.items_of consts.now) arena.old.objects }
-    ensures outcome { IsOutcome (C.text_of consts.now) (C.items_of consts.now) arena.old arena.new result (making_tuple (plain_heap (C.text_of consts.now) (C.items_of consts.now) arena.old) (map (plain (C.text_of consts.now) (C.items_of consts.now)) args.now)) }
+    ensures outcome { IsOutcome (C.text_of consts.now) (C.items_of consts.now) arena.old arena.new result
+        (making_tuple (plain_heap (C.text_of consts.now) (C.items_of consts.now) arena.old)
+        (map (plain (C.text_of consts.now) (C.items_of consts.now)) args.now)) }
     ensures tuple { IfOk result IsTuple }
 {
     let count = args.len();
@@ -75,7 +77,9 @@ fn make_raised<C: Constants>(
     requires told { IsTold (C.text_of consts.now) (C.items_of consts.now) args }
     requires tuple { IsTuple args }
     requires all_told { AllTold (C.text_of consts.now) (C.items_of consts.now) arena.old.objects }
-    ensures { IsOutcome (C.text_of consts.now) (C.items_of consts.now) arena.old arena.new result (making (plain_heap (C.text_of consts.now) (C.items_of consts.now) arena.old) (ExceptionObject kind (plain (C.text_of consts.now) (C.items_of consts.now) args) [] 0 [])) }
+    ensures { IsOutcome (C.text_of consts.now) (C.items_of consts.now) arena.old arena.new result
+        (making (plain_heap (C.text_of consts.now) (C.items_of consts.now) arena.old)
+        (ExceptionObject kind (plain (C.text_of consts.now) (C.items_of consts.now) args) [] 0 [])) }
 {
     consts.empty_law();
     match arena.make_exc(kind, args) {
@@ -94,7 +98,9 @@ fn make_exception<C: Constants>(
     requires few { length args.now < 2 ^ 32 }
     requires known { All (IsKnown (C.text_of consts.now) (C.items_of consts.now) arena.old.objects) args.now }
     requires all_told { AllTold (C.text_of consts.now) (C.items_of consts.now) arena.old.objects }
-    ensures { IsOutcome (C.text_of consts.now) (C.items_of consts.now) arena.old arena.new result (making_exception (plain_heap (C.text_of consts.now) (C.items_of consts.now) arena.old) kind (map (plain (C.text_of consts.now) (C.items_of consts.now)) args.now)) }
+    ensures { IsOutcome (C.text_of consts.now) (C.items_of consts.now) arena.old arena.new result
+        (making_exception (plain_heap (C.text_of consts.now) (C.items_of consts.now) arena.old) kind
+        (map (plain (C.text_of consts.now) (C.items_of consts.now)) args.now)) }
 {
     match make_tuple(arena, consts, args) {
         Ok(tuple) => make_raised(arena, consts, kind, tuple),
@@ -113,7 +119,10 @@ pub fn call_kind<C: Constants>(
     requires few { length args.now < 2 ^ 32 }
     requires known { All (IsKnown (C.text_of consts.now) (C.items_of consts.now) arena.old.objects) args.now }
     requires all_told { AllTold (C.text_of consts.now) (C.items_of consts.now) arena.old.objects }
-    ensures { IsOutcome (C.text_of consts.now) (C.items_of consts.now) arena.old arena.new result (call (plain_heap (C.text_of consts.now) (C.items_of consts.now) arena.old) (builtins.Kind kind) (map (plain (C.text_of consts.now) (C.items_of consts.now)) args.now) (map (plain_pair (C.text_of consts.now) (C.items_of consts.now)) keys.now)) }
+    ensures { IsOutcome (C.text_of consts.now) (C.items_of consts.now) arena.old arena.new result
+        (call (plain_heap (C.text_of consts.now) (C.items_of consts.now) arena.old) (builtins.Kind kind)
+        (map (plain (C.text_of consts.now) (C.items_of consts.now)) args.now)
+        (map (plain_pair (C.text_of consts.now) (C.items_of consts.now)) keys.now)) }
 {
     if !keys.is_empty() {
         return Err(Stop::Raises(Fault::NoKeywords));

@@ -88,7 +88,11 @@ fn is_one_of<C: Constants>(arena: &Arena, consts: &C, v: Value, types: Value) ->
     requires types_lead { Leads arena.now.objects types }
     requires types_told { IsTold (C.text_of consts.now) (C.items_of consts.now) types }
     requires all_told { AllTold (C.text_of consts.now) (C.items_of consts.now) arena.now.objects }
-    ensures { result ≡ option_map (list_any (is_instance_in (plain_heap (C.text_of consts.now) (C.items_of consts.now) arena.now) (plain (C.text_of consts.now) (C.items_of consts.now) v))) (all_of named_type_in (map (plain (C.text_of consts.now) (C.items_of consts.now)) (members_in (C.items_of consts.now) arena.now types))) }
+    ensures { result ≡ option_map
+        (list_any (is_instance_in (plain_heap (C.text_of consts.now) (C.items_of consts.now) arena.now)
+        (plain (C.text_of consts.now) (C.items_of consts.now) v)))
+        (all_of named_type_in (map (plain (C.text_of consts.now) (C.items_of consts.now))
+        (members_in (C.items_of consts.now) arena.now types))) }
 {
     let mut found = false;
     for at in 0..member_count(arena, consts, types) {
@@ -110,7 +114,9 @@ fn isinstance_of<C: Constants>(
     requires types_lead { Leads arena.now.objects types }
     requires types_told { IsTold (C.text_of consts.now) (C.items_of consts.now) types }
     requires all_told { AllTold (C.text_of consts.now) (C.items_of consts.now) arena.now.objects }
-    ensures { IsOutcome (C.text_of consts.now) (C.items_of consts.now) arena.now arena.now result (isinstance_in (plain_heap (C.text_of consts.now) (C.items_of consts.now) arena.now) (plain (C.text_of consts.now) (C.items_of consts.now) v) (plain (C.text_of consts.now) (C.items_of consts.now) types)) }
+    ensures { IsOutcome (C.text_of consts.now) (C.items_of consts.now) arena.now arena.now result
+        (isinstance_in (plain_heap (C.text_of consts.now) (C.items_of consts.now) arena.now)
+        (plain (C.text_of consts.now) (C.items_of consts.now) v) (plain (C.text_of consts.now) (C.items_of consts.now) types)) }
 {
     items_law(arena, consts, types);
     match is_one_of(arena, consts, v, types) {
@@ -136,7 +142,10 @@ pub fn call_isinstance<C: Constants>(
     requires few { length args.now < 2 ^ 32 }
     requires known { All (IsKnown (C.text_of consts.now) (C.items_of consts.now) arena.now.objects) args.now }
     requires all_told { AllTold (C.text_of consts.now) (C.items_of consts.now) arena.now.objects }
-    ensures { IsOutcome (C.text_of consts.now) (C.items_of consts.now) arena.now arena.now result (call (plain_heap (C.text_of consts.now) (C.items_of consts.now) arena.now) builtins.IsInstance (map (plain (C.text_of consts.now) (C.items_of consts.now)) args.now) (map (plain_pair (C.text_of consts.now) (C.items_of consts.now)) keys.now)) }
+    ensures { IsOutcome (C.text_of consts.now) (C.items_of consts.now) arena.now arena.now result
+        (call (plain_heap (C.text_of consts.now) (C.items_of consts.now) arena.now) builtins.IsInstance
+        (map (plain (C.text_of consts.now) (C.items_of consts.now)) args.now)
+        (map (plain_pair (C.text_of consts.now) (C.items_of consts.now)) keys.now)) }
 {
     match only_so_many(2, args, keys) {
         Ok(()) => {

@@ -7,7 +7,8 @@ ghost use Rattle.prim_builtins.specs.arena_heap.Values.{Leads};
 ghost use Rattle.prim_builtins.specs.arena_heap.Constants.{IsTold};
 ghost use Rattle.prim_builtins.specs.arena_objects.Keys.{AllTold};
 ghost use Rattle.prim_builtins.specs.py_values.Shown.{shown};
-ghost use Rattle.prim_builtins.specs.py_primitives.Operators.{op_match as match_in, match_kinds, members, all_of, is_under as is_under_in, named_kind as named_kind_in};
+ghost use Rattle.prim_builtins.specs.py_primitives.Operators.{op_match as match_in, match_kinds, members, all_of};
+ghost use Rattle.prim_builtins.specs.py_primitives.Operators.{is_under as is_under_in, named_kind as named_kind_in};
 ghost use Rattle.prim_builtins.specs.prim_walks.Plain.{plain, plain_heap};
 ghost use Rattle.prim_builtins.specs.prim_faults.Outcomes.{IsOutcome};
 ghost use Rattle.prim_types.specs.Members.{members_in};
@@ -22,7 +23,9 @@ fn takes<C: Constants>(arena: &Arena, consts: &C, kind: Kind, kinds: Value) -> O
     requires leads { Leads arena.now.objects kinds }
     requires told { IsTold (C.text_of consts.now) (C.items_of consts.now) kinds }
     requires all_told { AllTold (C.text_of consts.now) (C.items_of consts.now) arena.now.objects }
-    ensures { result ≡ option_map (list_any (is_under_in kind)) (all_of named_kind_in (map (plain (C.text_of consts.now) (C.items_of consts.now)) (members_in (C.items_of consts.now) arena.now kinds))) }
+    ensures { result ≡ option_map (list_any (is_under_in kind))
+        (all_of named_kind_in (map (plain (C.text_of consts.now) (C.items_of consts.now))
+        (members_in (C.items_of consts.now) arena.now kinds))) }
 {
     let mut found = false;
     for at in 0..member_count(arena, consts, kinds) {
@@ -43,7 +46,11 @@ fn match_kind<C: Constants>(
     requires leads { Leads arena.now.objects kinds }
     requires told { IsTold (C.text_of consts.now) (C.items_of consts.now) kinds }
     requires all_told { AllTold (C.text_of consts.now) (C.items_of consts.now) arena.now.objects }
-    ensures { IsOutcome (C.text_of consts.now) (C.items_of consts.now) arena.now arena.now result (match_kinds (plain_heap (C.text_of consts.now) (C.items_of consts.now) arena.now) (Some kind) (all_of named_kind_in (members (plain (C.text_of consts.now) (C.items_of consts.now) kinds) (shown (plain_heap (C.text_of consts.now) (C.items_of consts.now) arena.now) (plain (C.text_of consts.now) (C.items_of consts.now) kinds))))) }
+    ensures { IsOutcome (C.text_of consts.now) (C.items_of consts.now) arena.now arena.now result
+        (match_kinds (plain_heap (C.text_of consts.now) (C.items_of consts.now) arena.now) (Some kind)
+        (all_of named_kind_in (members (plain (C.text_of consts.now) (C.items_of consts.now) kinds)
+        (shown (plain_heap (C.text_of consts.now) (C.items_of consts.now) arena.now)
+        (plain (C.text_of consts.now) (C.items_of consts.now) kinds))))) }
 {
     items_law(arena, consts, kinds);
     match takes(arena, consts, kind, kinds) {
@@ -63,7 +70,9 @@ pub fn op_match<C: Constants>(
     requires right_leads { Leads arena.now.objects right }
     requires right_told { IsTold (C.text_of consts.now) (C.items_of consts.now) right }
     requires all_told { AllTold (C.text_of consts.now) (C.items_of consts.now) arena.now.objects }
-    ensures { IsOutcome (C.text_of consts.now) (C.items_of consts.now) arena.now arena.now result (match_in (plain_heap (C.text_of consts.now) (C.items_of consts.now) arena.now) (plain (C.text_of consts.now) (C.items_of consts.now) left) (plain (C.text_of consts.now) (C.items_of consts.now) right)) }
+    ensures { IsOutcome (C.text_of consts.now) (C.items_of consts.now) arena.now arena.now result
+        (match_in (plain_heap (C.text_of consts.now) (C.items_of consts.now) arena.now)
+        (plain (C.text_of consts.now) (C.items_of consts.now) left) (plain (C.text_of consts.now) (C.items_of consts.now) right)) }
 {
     match exception_kind(arena, left) {
         Some(kind) => match_kind(arena, consts, kind, right),

@@ -12,7 +12,8 @@ ghost use Rattle.prim_builtins.specs.py_values.Shown.{shown};
 ghost use Rattle.prim_builtins.specs.py_primitives.Outcome.{gives};
 ghost use Rattle.prim_builtins.specs.py_primitives.Operators.{gives_number};
 ghost use Rattle.mpy_base.specs.Val.{Int};
-ghost use Rattle.prim_builtins.specs.py_primitives.Calls.{call, int_of as int_in, gives_numeral, signed_number, with_number, digits_number as digits_in, without_blanks, trimmed as trimmed_in};
+ghost use Rattle.prim_builtins.specs.py_primitives.Calls.{call, int_of as int_in, gives_numeral, signed_number, with_number};
+ghost use Rattle.prim_builtins.specs.py_primitives.Calls.{digits_number as digits_in, without_blanks, trimmed as trimmed_in};
 ghost use Rattle.prim_builtins.specs.prim_walks.Plain.{plain, plain_pair, plain_heap};
 ghost use Rattle.prim_builtins.specs.prim_faults.Faults.{IsKnown};
 ghost use Rattle.prim_builtins.specs.prim_faults.Outcomes.{IsOutcome};
@@ -141,7 +142,10 @@ fn signed(bytes: &[u8]) -> Result<Value, Stop>
 fn number<C: Constants>(arena: &Arena, _consts: &C, v: Value) -> Result<Value, Stop>
     requires leads { Leads arena.now.objects v }
     requires all_told { AllTold (C.text_of _consts.now) (C.items_of _consts.now) arena.now.objects }
-    ensures { IsOutcome (C.text_of _consts.now) (C.items_of _consts.now) arena.now arena.now result (with_number (plain_heap (C.text_of _consts.now) (C.items_of _consts.now) arena.now) (plain (C.text_of _consts.now) (C.items_of _consts.now) v) (λ z. gives (Int z) (plain_heap (C.text_of _consts.now) (C.items_of _consts.now) arena.now))) }
+    ensures { IsOutcome (C.text_of _consts.now) (C.items_of _consts.now) arena.now arena.now result
+        (with_number (plain_heap (C.text_of _consts.now) (C.items_of _consts.now) arena.now)
+        (plain (C.text_of _consts.now) (C.items_of _consts.now) v)
+        (λ z. gives (Int z) (plain_heap (C.text_of _consts.now) (C.items_of _consts.now) arena.now))) }
 {
     match number_of(arena, v) {
         Ok(z) => Ok(Value::Int(z)),
@@ -153,7 +157,11 @@ fn int_of<C: Constants>(arena: &Arena, consts: &C, v: Value) -> Result<Value, St
     requires leads { Leads arena.now.objects v }
     requires told { IsTold (C.text_of consts.now) (C.items_of consts.now) v }
     requires all_told { AllTold (C.text_of consts.now) (C.items_of consts.now) arena.now.objects }
-    ensures { IsOutcome (C.text_of consts.now) (C.items_of consts.now) arena.now arena.now result (int_in (plain_heap (C.text_of consts.now) (C.items_of consts.now) arena.now) (plain (C.text_of consts.now) (C.items_of consts.now) v) (shown (plain_heap (C.text_of consts.now) (C.items_of consts.now) arena.now) (plain (C.text_of consts.now) (C.items_of consts.now) v))) }
+    ensures { IsOutcome (C.text_of consts.now) (C.items_of consts.now) arena.now arena.now result
+        (int_in (plain_heap (C.text_of consts.now) (C.items_of consts.now) arena.now)
+        (plain (C.text_of consts.now) (C.items_of consts.now) v)
+        (shown (plain_heap (C.text_of consts.now) (C.items_of consts.now) arena.now)
+        (plain (C.text_of consts.now) (C.items_of consts.now) v))) }
 {
     match look_at(arena, consts, v) {
         Look::Text(bytes) => signed(trimmed(bytes)),
@@ -177,7 +185,10 @@ pub fn call_int<C: Constants>(
     requires few { length args.now < 2 ^ 32 }
     requires known { All (IsKnown (C.text_of consts.now) (C.items_of consts.now) arena.now.objects) args.now }
     requires all_told { AllTold (C.text_of consts.now) (C.items_of consts.now) arena.now.objects }
-    ensures { IsOutcome (C.text_of consts.now) (C.items_of consts.now) arena.now arena.now result (call (plain_heap (C.text_of consts.now) (C.items_of consts.now) arena.now) builtins.Int (map (plain (C.text_of consts.now) (C.items_of consts.now)) args.now) (map (plain_pair (C.text_of consts.now) (C.items_of consts.now)) keys.now)) }
+    ensures { IsOutcome (C.text_of consts.now) (C.items_of consts.now) arena.now arena.now result
+        (call (plain_heap (C.text_of consts.now) (C.items_of consts.now) arena.now) builtins.Int
+        (map (plain (C.text_of consts.now) (C.items_of consts.now)) args.now)
+        (map (plain_pair (C.text_of consts.now) (C.items_of consts.now)) keys.now)) }
 {
     match one_argument(args, keys) {
         Ok(v) => int_of(arena, consts, v),

@@ -62,7 +62,10 @@ fn put_next<C: Constants>(
     requires room { length (text_at arena.old t.cell) ≡ length (text_in (C.text_of consts.now) (C.items_of consts.now) arena.old raw v) }
     requires within { from < length (text_at arena.old t.cell) }
     ensures count { result ≡ min 4096 (length (text_at arena.old t.cell) - from) }
-    ensures put { arena.new ≡ with_text arena.old t.cell (written_over from (take 4096 (drop from (text_in (C.text_of consts.now) (C.items_of consts.now) arena.old raw v))) (text_at arena.old t.cell)) }
+    ensures put { arena.new
+        ≡ with_text arena.old t.cell
+        (written_over from (take 4096 (drop from (text_in (C.text_of consts.now) (C.items_of consts.now) arena.old raw v)))
+        (text_at arena.old t.cell)) }
     ensures later { Later arena.old.objects arena.new.objects }
 {
     let part = text_part(arena, consts, v, raw, from as u64).unwrap();
@@ -163,7 +166,9 @@ fn make_filled<C: Constants>(
     requires all_told { AllTold (C.text_of consts.now) (C.items_of consts.now) arena.old.objects }
     requires found { IsSome (found_text (C.text_of consts.now) (C.items_of consts.now) arena.old raw v) }
     requires len { len ≡ min (length (text_in (C.text_of consts.now) (C.items_of consts.now) arena.old raw v)) (2 ^ 64 - 1) }
-    ensures { IsOutcome (C.text_of consts.now) (C.items_of consts.now) arena.old arena.new result (making_text (plain_heap (C.text_of consts.now) (C.items_of consts.now) arena.old) (text_in (C.text_of consts.now) (C.items_of consts.now) arena.old raw v)) }
+    ensures { IsOutcome (C.text_of consts.now) (C.items_of consts.now) arena.old arena.new result
+        (making_text (plain_heap (C.text_of consts.now) (C.items_of consts.now) arena.old)
+        (text_in (C.text_of consts.now) (C.items_of consts.now) arena.old raw v)) }
 {
     if len == 0 {
         consts.empty_law();
@@ -192,7 +197,11 @@ fn make_shown<C: Constants>(
     requires leads { Leads arena.old.objects v }
     requires told { IsTold (C.text_of consts.now) (C.items_of consts.now) v }
     requires all_told { AllTold (C.text_of consts.now) (C.items_of consts.now) arena.old.objects }
-    ensures { IsOutcome (C.text_of consts.now) (C.items_of consts.now) arena.old arena.new result (after_walk (plain_heap (C.text_of consts.now) (C.items_of consts.now) arena.old) (text_of_walk (plain_heap (C.text_of consts.now) (C.items_of consts.now) arena.old) raw (plain (C.text_of consts.now) (C.items_of consts.now) v)) (making_text (plain_heap (C.text_of consts.now) (C.items_of consts.now) arena.old))) }
+    ensures { IsOutcome (C.text_of consts.now) (C.items_of consts.now) arena.old arena.new result
+        (after_walk (plain_heap (C.text_of consts.now) (C.items_of consts.now) arena.old)
+        (text_of_walk (plain_heap (C.text_of consts.now) (C.items_of consts.now) arena.old) raw
+        (plain (C.text_of consts.now) (C.items_of consts.now) v))
+        (making_text (plain_heap (C.text_of consts.now) (C.items_of consts.now) arena.old))) }
 {
     match text_len(arena, consts, v, raw) {
         Some(len) => make_filled(arena, consts, v, raw, len),
@@ -210,7 +219,10 @@ pub fn call_str<C: Constants>(
     requires few { length args.now < 2 ^ 32 }
     requires known { All (IsKnown (C.text_of consts.now) (C.items_of consts.now) arena.old.objects) args.now }
     requires all_told { AllTold (C.text_of consts.now) (C.items_of consts.now) arena.old.objects }
-    ensures { IsOutcome (C.text_of consts.now) (C.items_of consts.now) arena.old arena.new result (call (plain_heap (C.text_of consts.now) (C.items_of consts.now) arena.old) builtins.Str (map (plain (C.text_of consts.now) (C.items_of consts.now)) args.now) (map (plain_pair (C.text_of consts.now) (C.items_of consts.now)) keys.now)) }
+    ensures { IsOutcome (C.text_of consts.now) (C.items_of consts.now) arena.old arena.new result
+        (call (plain_heap (C.text_of consts.now) (C.items_of consts.now) arena.old) builtins.Str
+        (map (plain (C.text_of consts.now) (C.items_of consts.now)) args.now)
+        (map (plain_pair (C.text_of consts.now) (C.items_of consts.now)) keys.now)) }
 {
     match one_argument(args, keys) {
         Ok(v) => make_shown(arena, consts, v, true),
@@ -229,7 +241,9 @@ pub fn visits_call_str<C: Constants>(
     requires few { length args.now < 2 ^ 32 }
     requires known { All (IsKnown (C.text_of consts.now) (C.items_of consts.now) arena.now.objects) args.now }
     requires all_told { AllTold (C.text_of consts.now) (C.items_of consts.now) arena.now.objects }
-    ensures { result ≡ min (call (plain_heap (C.text_of consts.now) (C.items_of consts.now) arena.now) builtins.Str (map (plain (C.text_of consts.now) (C.items_of consts.now)) args.now) (map (plain_pair (C.text_of consts.now) (C.items_of consts.now)) keys.now)).visits most }
+    ensures { result ≡ min (call (plain_heap (C.text_of consts.now) (C.items_of consts.now) arena.now) builtins.Str
+        (map (plain (C.text_of consts.now) (C.items_of consts.now)) args.now)
+        (map (plain_pair (C.text_of consts.now) (C.items_of consts.now)) keys.now)).visits most }
 {
     match one_argument(args, keys) {
         Ok(v) => visits_text(arena, consts, v, true, most),
@@ -247,7 +261,10 @@ pub fn call_repr<C: Constants>(
     requires few { length args.now < 2 ^ 32 }
     requires known { All (IsKnown (C.text_of consts.now) (C.items_of consts.now) arena.old.objects) args.now }
     requires all_told { AllTold (C.text_of consts.now) (C.items_of consts.now) arena.old.objects }
-    ensures { IsOutcome (C.text_of consts.now) (C.items_of consts.now) arena.old arena.new result (call (plain_heap (C.text_of consts.now) (C.items_of consts.now) arena.old) builtins.Repr (map (plain (C.text_of consts.now) (C.items_of consts.now)) args.now) (map (plain_pair (C.text_of consts.now) (C.items_of consts.now)) keys.now)) }
+    ensures { IsOutcome (C.text_of consts.now) (C.items_of consts.now) arena.old arena.new result
+        (call (plain_heap (C.text_of consts.now) (C.items_of consts.now) arena.old) builtins.Repr
+        (map (plain (C.text_of consts.now) (C.items_of consts.now)) args.now)
+        (map (plain_pair (C.text_of consts.now) (C.items_of consts.now)) keys.now)) }
 {
     match one_argument(args, keys) {
         Ok(v) => make_shown(arena, consts, v, false),
@@ -266,7 +283,9 @@ pub fn visits_call_repr<C: Constants>(
     requires few { length args.now < 2 ^ 32 }
     requires known { All (IsKnown (C.text_of consts.now) (C.items_of consts.now) arena.now.objects) args.now }
     requires all_told { AllTold (C.text_of consts.now) (C.items_of consts.now) arena.now.objects }
-    ensures { result ≡ min (call (plain_heap (C.text_of consts.now) (C.items_of consts.now) arena.now) builtins.Repr (map (plain (C.text_of consts.now) (C.items_of consts.now)) args.now) (map (plain_pair (C.text_of consts.now) (C.items_of consts.now)) keys.now)).visits most }
+    ensures { result ≡ min (call (plain_heap (C.text_of consts.now) (C.items_of consts.now) arena.now) builtins.Repr
+        (map (plain (C.text_of consts.now) (C.items_of consts.now)) args.now)
+        (map (plain_pair (C.text_of consts.now) (C.items_of consts.now)) keys.now)).visits most }
 {
     match one_argument(args, keys) {
         Ok(v) => visits_text(arena, consts, v, false, most),

@@ -18,7 +18,8 @@ module _ (texts : StrNo → Option (List ℕ)) (tuples : ConstNo → Option (Lis
   met equal (meetings.Items count) =
       all_equal (plain_heap texts tuples heap) equal (map (plain texts tuples) (items_in tuples heap a)) (map (plain texts tuples) (items_in tuples heap b))
   met equal (meetings.Pairs d e) =
-      all_found (plain_heap texts tuples heap) equal (map (plain_pair texts tuples) (pairs_at heap d.cell)) (map (plain_pair texts tuples) (pairs_at heap e.cell))
+      all_found (plain_heap texts tuples heap) equal (map (plain_pair texts tuples) (pairs_at heap d.cell))
+      (map (plain_pair texts tuples) (pairs_at heap e.cell))
 
   -- as many items as there are on either side, or two dicts
   abbrev pub IsMeeting : Meeting → Type 0

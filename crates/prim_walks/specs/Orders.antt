@@ -40,7 +40,8 @@ module _ (texts : StrNo → Option (List ℕ)) (tuples : ConstNo → Option (Lis
     -- the walk that a ranking leaves
     abbrev pub ranked : (Val → Val → Walk Bool) → (Val → Val → Walk (Result Ordering meaning.Unordered)) → Ranking → Walk (Result Ordering meaning.Unordered)
     ranked equal order (rankings.Decided o) = answers (Ok o)
-    ranked equal order (rankings.Items m n) = order_items equal order (map (plain texts tuples) (items_in tuples heap a)) (map (plain texts tuples) (items_in tuples heap b))
+    ranked equal order (rankings.Items m n) =
+        order_items equal order (map (plain texts tuples) (items_in tuples heap a)) (map (plain texts tuples) (items_in tuples heap b))
     ranked equal order rankings.Unordered = answers (Err (record { left = plain texts tuples a; right = plain texts tuples b }))
 
     -- as many items as there are on either side

@@ -22,7 +22,8 @@ pub record Wrote {P : Type 0} (Takes : P → List ℕ → P → Type 0) (old : P
   pub whole : flat_map (λ piece. piece) pieces ≡ text
 
 -- a walk has an answer, and its text was written
-pub record Writes {P A : Type 0} (Takes : P → List ℕ → P → Type 0) (text : A → List ℕ) (ran : Result A Halt × Option ℕ) (left : Option ℕ) (old new : P) : Type 0 where
+pub record Writes {P A : Type 0} (Takes : P → List ℕ → P → Type 0) (text : A
+    → List ℕ) (ran : Result A Halt × Option ℕ) (left : Option ℕ) (old new : P) : Type 0 where
   pub answer : A
   pub is : ran ≡ (Ok answer, left)
   pub wrote : Wrote Takes old (text answer) new

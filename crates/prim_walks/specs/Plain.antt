@@ -5,7 +5,8 @@ use Rattle.arena_objects.specs.arena_heap.declared.value.Value.TheVariants as va
 use Rattle.arena_objects.specs.arena_heap.declared.value.StrNo.{StrNo}
 use Rattle.arena_objects.specs.arena_heap.declared.value.StrNo.TheVariants as strs
 use Rattle.arena_objects.specs.arena_heap.declared.value.ConstNo.{ConstNo}
-use Rattle.py_primitives.specs.mpy_base.World.{Object, ListObject, TupleObject, TextObject, DictObject, FunctionObject, ExceptionObject, MethodObject, RangeObject, ModuleObject, Heap}
+use Rattle.py_primitives.specs.mpy_base.World.{Object, ListObject, TupleObject, TextObject, DictObject, FunctionObject}
+use Rattle.py_primitives.specs.mpy_base.World.{ExceptionObject, MethodObject, RangeObject, ModuleObject, Heap}
 use Rattle.py_primitives.specs.mpy_base.Val.{Val, Nil, Truth, Int, Str, Fixed, Empty, Built, At, Vals, Only, Then}
 use Rattle.arena_objects.specs.arena_heap.Values.{ArenaObject}
 use Rattle.arena_objects.specs.Iterables.{or_nothing}

@@ -21,7 +21,10 @@ pub fn contains<C: Constants>(arena: &Arena, consts: &C, over: Value, v: Value) 
     requires over_told { IsTold (C.text_of consts.now) (C.items_of consts.now) over }
     requires told { IsTold (C.text_of consts.now) (C.items_of consts.now) v }
     requires all_told { AllTold (C.text_of consts.now) (C.items_of consts.now) arena.now.objects }
-    ensures answer { result ≡ (contains_equal (plain_heap (C.text_of consts.now) (C.items_of consts.now) arena.now) (plain (C.text_of consts.now) (C.items_of consts.now) v) (map (plain (C.text_of consts.now) (C.items_of consts.now)) (items_in (C.items_of consts.now) arena.now over))).answer }
+    ensures answer { result
+        ≡ (contains_equal (plain_heap (C.text_of consts.now) (C.items_of consts.now) arena.now)
+        (plain (C.text_of consts.now) (C.items_of consts.now) v)
+        (map (plain (C.text_of consts.now) (C.items_of consts.now)) (items_in (C.items_of consts.now) arena.now over))).answer }
 {
     let mut budget = Budget { left: None };
     find_equal(arena, consts, over, v, &mut budget).ok()
@@ -40,7 +43,10 @@ pub fn visits_contains<C: Constants>(
     requires over_told { IsTold (C.text_of consts.now) (C.items_of consts.now) over }
     requires told { IsTold (C.text_of consts.now) (C.items_of consts.now) v }
     requires all_told { AllTold (C.text_of consts.now) (C.items_of consts.now) arena.now.objects }
-    ensures visits { result ≡ min (contains_equal (plain_heap (C.text_of consts.now) (C.items_of consts.now) arena.now) (plain (C.text_of consts.now) (C.items_of consts.now) v) (map (plain (C.text_of consts.now) (C.items_of consts.now)) (items_in (C.items_of consts.now) arena.now over))).visits most }
+    ensures visits { result
+        ≡ min (contains_equal (plain_heap (C.text_of consts.now) (C.items_of consts.now) arena.now)
+        (plain (C.text_of consts.now) (C.items_of consts.now) v)
+        (map (plain (C.text_of consts.now) (C.items_of consts.now)) (items_in (C.items_of consts.now) arena.now over))).visits most }
 {
     let mut budget = Budget { left: Some(most) };
     let _ = find_equal(arena, consts, over, v, &mut budget);
@@ -60,7 +66,10 @@ fn find_equal<C: Constants>(
     requires over_told { IsTold (C.text_of consts.now) (C.items_of consts.now) over }
     requires told { IsTold (C.text_of consts.now) (C.items_of consts.now) v }
     requires all_told { AllTold (C.text_of consts.now) (C.items_of consts.now) arena.now.objects }
-    ensures { run (contains_equal (plain_heap (C.text_of consts.now) (C.items_of consts.now) arena.now) (plain (C.text_of consts.now) (C.items_of consts.now) v) (map (plain (C.text_of consts.now) (C.items_of consts.now)) (items_in (C.items_of consts.now) arena.now over))) budget.old.left ≡ (result, budget.new.left) }
+    ensures { run (contains_equal (plain_heap (C.text_of consts.now) (C.items_of consts.now) arena.now)
+        (plain (C.text_of consts.now) (C.items_of consts.now) v)
+        (map (plain (C.text_of consts.now) (C.items_of consts.now)) (items_in (C.items_of consts.now) arena.now over))) budget.old.left
+        ≡ (result, budget.new.left) }
 {
     for at in 0..item_count(arena, consts, over) {
         let item = item_at(arena, consts, over, at);

@@ -23,7 +23,9 @@ pub fn equal<C: Constants>(arena: &Arena, consts: &C, a: Value, b: Value) -> Opt
     requires a_told { IsTold (C.text_of consts.now) (C.items_of consts.now) a }
     requires b_told { IsTold (C.text_of consts.now) (C.items_of consts.now) b }
     requires all_told { AllTold (C.text_of consts.now) (C.items_of consts.now) arena.now.objects }
-    ensures answer { result ≡ (equality (plain_heap (C.text_of consts.now) (C.items_of consts.now) arena.now) (plain (C.text_of consts.now) (C.items_of consts.now) a) (plain (C.text_of consts.now) (C.items_of consts.now) b)).answer }
+    ensures answer { result
+        ≡ (equality (plain_heap (C.text_of consts.now) (C.items_of consts.now) arena.now)
+        (plain (C.text_of consts.now) (C.items_of consts.now) a) (plain (C.text_of consts.now) (C.items_of consts.now) b)).answer }
 {
     let mut budget = Budget { left: None };
     equal_values(arena, consts, a, b, MAX_WALK_DEPTH as u32, &mut budget).ok()
@@ -36,7 +38,9 @@ pub fn visits_equal<C: Constants>(arena: &Arena, consts: &C, a: Value, b: Value,
     requires a_told { IsTold (C.text_of consts.now) (C.items_of consts.now) a }
     requires b_told { IsTold (C.text_of consts.now) (C.items_of consts.now) b }
     requires all_told { AllTold (C.text_of consts.now) (C.items_of consts.now) arena.now.objects }
-    ensures visits { result ≡ min (equality (plain_heap (C.text_of consts.now) (C.items_of consts.now) arena.now) (plain (C.text_of consts.now) (C.items_of consts.now) a) (plain (C.text_of consts.now) (C.items_of consts.now) b)).visits most }
+    ensures visits { result
+        ≡ min (equality (plain_heap (C.text_of consts.now) (C.items_of consts.now) arena.now)
+        (plain (C.text_of consts.now) (C.items_of consts.now) a) (plain (C.text_of consts.now) (C.items_of consts.now) b)).visits most }
 {
     let mut budget = Budget { left: Some(most) };
     let _ = equal_values(arena, consts, a, b, MAX_WALK_DEPTH as u32, &mut budget);
@@ -58,7 +62,9 @@ pub(crate) fn equal_values<C: Constants>(
     requires a_told { IsTold (C.text_of consts.now) (C.items_of consts.now) a }
     requires b_told { IsTold (C.text_of consts.now) (C.items_of consts.now) b }
     requires all_told { AllTold (C.text_of consts.now) (C.items_of consts.now) arena.now.objects }
-    ensures { run (equal_within (plain_heap (C.text_of consts.now) (C.items_of consts.now) arena.now) depth (plain (C.text_of consts.now) (C.items_of consts.now) a) (plain (C.text_of consts.now) (C.items_of consts.now) b)) budget.old.left ≡ (result, budget.new.left) }
+    ensures { run (equal_within (plain_heap (C.text_of consts.now) (C.items_of consts.now) arena.now) depth
+        (plain (C.text_of consts.now) (C.items_of consts.now) a) (plain (C.text_of consts.now) (C.items_of consts.now) b)) budget.old.left
+        ≡ (result, budget.new.left) }
 {
     if depth == 0 {
         return Err(Halt::TooDeep);
@@ -92,7 +98,11 @@ fn equal_items<C: Constants>(
     requires all_told { AllTold (C.text_of consts.now) (C.items_of consts.now) arena.now.objects }
     requires a_count { count ≡ length (items_in (C.items_of consts.now) arena.now a) }
     requires b_count { count ≡ length (items_in (C.items_of consts.now) arena.now b) }
-    ensures { run (all_equal (plain_heap (C.text_of consts.now) (C.items_of consts.now) arena.now) (equal_within (plain_heap (C.text_of consts.now) (C.items_of consts.now) arena.now) depth) (map (plain (C.text_of consts.now) (C.items_of consts.now)) (items_in (C.items_of consts.now) arena.now a)) (map (plain (C.text_of consts.now) (C.items_of consts.now)) (items_in (C.items_of consts.now) arena.now b))) budget.old.left ≡ (result, budget.new.left) }
+    ensures { run (all_equal (plain_heap (C.text_of consts.now) (C.items_of consts.now) arena.now)
+        (equal_within (plain_heap (C.text_of consts.now) (C.items_of consts.now) arena.now) depth)
+        (map (plain (C.text_of consts.now) (C.items_of consts.now)) (items_in (C.items_of consts.now) arena.now a))
+        (map (plain (C.text_of consts.now) (C.items_of consts.now)) (items_in (C.items_of consts.now) arena.now b))) budget.old.left
+        ≡ (result, budget.new.left) }
 {
     for at in 0..count {
         let x = item_at(arena, consts, a, at);
@@ -119,7 +129,11 @@ fn equal_pairs<C: Constants>(
     requires first { IsA arena.now.objects ADict d.cell }
     requires second { IsA arena.now.objects ADict e.cell }
     requires all_told { AllTold (C.text_of consts.now) (C.items_of consts.now) arena.now.objects }
-    ensures { run (all_found (plain_heap (C.text_of consts.now) (C.items_of consts.now) arena.now) (equal_within (plain_heap (C.text_of consts.now) (C.items_of consts.now) arena.now) depth) (map (plain_pair (C.text_of consts.now) (C.items_of consts.now)) (pairs_at arena.now d.cell)) (map (plain_pair (C.text_of consts.now) (C.items_of consts.now)) (pairs_at arena.now e.cell))) budget.old.left ≡ (result, budget.new.left) }
+    ensures { run (all_found (plain_heap (C.text_of consts.now) (C.items_of consts.now) arena.now)
+        (equal_within (plain_heap (C.text_of consts.now) (C.items_of consts.now) arena.now) depth)
+        (map (plain_pair (C.text_of consts.now) (C.items_of consts.now)) (pairs_at arena.now d.cell))
+        (map (plain_pair (C.text_of consts.now) (C.items_of consts.now)) (pairs_at arena.now e.cell))) budget.old.left
+        ≡ (result, budget.new.left) }
 {
     arena.sound_law();
     for at in 0..dict_len(arena, d) {

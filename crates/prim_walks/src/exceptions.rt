@@ -22,7 +22,10 @@ pub(crate) fn exception_parts<C: Constants>(arena: &Arena, consts: &C, e: ExcNo)
     ensures parts { IsRaised (object arena.now.objects e.cell) result.0 result.1 }
     ensures leads { Leads arena.now.objects result.1 }
     ensures told { IsTold (C.text_of consts.now) (C.items_of consts.now) result.1 }
-    ensures items { items_of_tuple (shown (plain_heap (C.text_of consts.now) (C.items_of consts.now) arena.now) (plain (C.text_of consts.now) (C.items_of consts.now) result.1)) ≡ map (plain (C.text_of consts.now) (C.items_of consts.now)) (items_in (C.items_of consts.now) arena.now result.1) }
+    ensures items { items_of_tuple
+        (shown (plain_heap (C.text_of consts.now) (C.items_of consts.now) arena.now)
+        (plain (C.text_of consts.now) (C.items_of consts.now) result.1))
+        ≡ map (plain (C.text_of consts.now) (C.items_of consts.now)) (items_in (C.items_of consts.now) arena.now result.1) }
 {
     let (kind, args, _, _, _) = exc_parts(arena, e);
     let _ = look_at(arena, consts, args);

@@ -40,7 +40,8 @@ fn is_one_builtin(x: Builtin, y: Builtin) -> bool
 
 /// Whether two values are one thing: None is, a built-in, and an object.
 pub(crate) fn is_same(a: Value, b: Value) -> bool
-    ensures { (texts : TextName → Option (List ℕ)) (tuples : TupleName → Option (List Item)) → result ≡ is_one_thing (plain texts tuples a) (plain texts tuples b) }
+    ensures { (texts : TextName → Option (List ℕ)) (tuples : TupleName → Option (List Item))
+        → result ≡ is_one_thing (plain texts tuples a) (plain texts tuples b) }
 {
     match a {
         Value::None => match b {

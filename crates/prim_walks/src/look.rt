@@ -28,7 +28,9 @@ pub enum Look<'a> {
 pub fn look_at<'a, C: Constants>(arena: &'a Arena, consts: &'a C, v: Value) -> Look<'a>
     requires leads { Leads arena.now.objects v }
     requires told { IsTold (C.text_of consts.now) (C.items_of consts.now) v }
-    ensures shown { seen (C.text_of consts.now) (C.items_of consts.now) arena.now v result ≡ shown (plain_heap (C.text_of consts.now) (C.items_of consts.now) arena.now) (plain (C.text_of consts.now) (C.items_of consts.now) v) }
+    ensures shown { seen (C.text_of consts.now) (C.items_of consts.now) arena.now v result
+        ≡ shown (plain_heap (C.text_of consts.now) (C.items_of consts.now) arena.now)
+        (plain (C.text_of consts.now) (C.items_of consts.now) v) }
     ensures parts { IsLook (C.text_of consts.now) (C.items_of consts.now) arena.now v result }
 {
     match v {

@@ -54,7 +54,14 @@ pub(crate) fn meet<C: Constants>(arena: &Arena, consts: &C, a: Value, b: Value) 
     requires b_leads { Leads arena.now.objects b }
     requires a_told { IsTold (C.text_of consts.now) (C.items_of consts.now) a }
     requires b_told { IsTold (C.text_of consts.now) (C.items_of consts.now) b }
-    ensures met { (equal : PlainValue → PlainValue → Walk Bool) → met (C.text_of consts.now) (C.items_of consts.now) arena.now a b equal result ≡ equal_shown (plain_heap (C.text_of consts.now) (C.items_of consts.now) arena.now) equal (plain (C.text_of consts.now) (C.items_of consts.now) a) (plain (C.text_of consts.now) (C.items_of consts.now) b) (shown (plain_heap (C.text_of consts.now) (C.items_of consts.now) arena.now) (plain (C.text_of consts.now) (C.items_of consts.now) a)) (shown (plain_heap (C.text_of consts.now) (C.items_of consts.now) arena.now) (plain (C.text_of consts.now) (C.items_of consts.now) b)) }
+    ensures met { (equal : PlainValue → PlainValue → Walk Bool)
+        → met (C.text_of consts.now) (C.items_of consts.now) arena.now a b equal result
+        ≡ equal_shown (plain_heap (C.text_of consts.now) (C.items_of consts.now) arena.now) equal
+        (plain (C.text_of consts.now) (C.items_of consts.now) a) (plain (C.text_of consts.now) (C.items_of consts.now) b)
+        (shown (plain_heap (C.text_of consts.now) (C.items_of consts.now) arena.now)
+        (plain (C.text_of consts.now) (C.items_of consts.now) a))
+        (shown (plain_heap (C.text_of consts.now) (C.items_of consts.now) arena.now)
+        (plain (C.text_of consts.now) (C.items_of consts.now) b)) }
     ensures parts { IsMeeting (C.text_of consts.now) (C.items_of consts.now) arena.now a b result }
 {
     let same = is_same(a, b);

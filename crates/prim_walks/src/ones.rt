@@ -20,7 +20,8 @@ use crate::ranges::is_one_number;
 use arena_objects::{Arena, Constants, Value, item_count};
 
 fn is_one_truth(x: bool, b: Value) -> bool
-    ensures { (heap : PlainHeap) (texts : TextName → Option (List ℕ)) (tuples : TupleName → Option (List Item)) → result ≡ is_one_thing heap (Truth x) (plain texts tuples b) }
+    ensures { (heap : PlainHeap) (texts : TextName → Option (List ℕ)) (tuples : TupleName → Option (List Item))
+        → result ≡ is_one_thing heap (Truth x) (plain texts tuples b) }
 {
     match b {
         Value::Bool(y) => x == y,
@@ -29,7 +30,8 @@ fn is_one_truth(x: bool, b: Value) -> bool
 }
 
 fn is_one_int(x: i32, b: Value) -> bool
-    ensures { (heap : PlainHeap) (texts : TextName → Option (List ℕ)) (tuples : TupleName → Option (List Item)) → result ≡ is_one_thing heap (Int x) (plain texts tuples b) }
+    ensures { (heap : PlainHeap) (texts : TextName → Option (List ℕ)) (tuples : TupleName → Option (List Item))
+        → result ≡ is_one_thing heap (Int x) (plain texts tuples b) }
 {
     match b {
         Value::Int(y) => is_one_number(x, y),
@@ -43,7 +45,12 @@ fn is_one_shown_so<C: Constants>(arena: &Arena, consts: &C, a: Value, b: Value) 
     requires b_leads { Leads arena.now.objects b }
     requires a_told { IsTold (C.text_of consts.now) (C.items_of consts.now) a }
     requires b_told { IsTold (C.text_of consts.now) (C.items_of consts.now) b }
-    ensures { result ≡ is_one_shown (plain (C.text_of consts.now) (C.items_of consts.now) a) (plain (C.text_of consts.now) (C.items_of consts.now) b) (shown (plain_heap (C.text_of consts.now) (C.items_of consts.now) arena.now) (plain (C.text_of consts.now) (C.items_of consts.now) a)) (shown (plain_heap (C.text_of consts.now) (C.items_of consts.now) arena.now) (plain (C.text_of consts.now) (C.items_of consts.now) b)) }
+    ensures { result ≡ is_one_shown (plain (C.text_of consts.now) (C.items_of consts.now) a)
+        (plain (C.text_of consts.now) (C.items_of consts.now) b)
+        (shown (plain_heap (C.text_of consts.now) (C.items_of consts.now) arena.now)
+        (plain (C.text_of consts.now) (C.items_of consts.now) a))
+        (shown (plain_heap (C.text_of consts.now) (C.items_of consts.now) arena.now)
+        (plain (C.text_of consts.now) (C.items_of consts.now) b)) }
 {
     let same = is_same(a, b);
     let other = look_at(arena, consts, b);
@@ -63,7 +70,8 @@ pub fn is_one<C: Constants>(arena: &Arena, consts: &C, a: Value, b: Value) -> bo
     requires b_leads { Leads arena.now.objects b }
     requires a_told { IsTold (C.text_of consts.now) (C.items_of consts.now) a }
     requires b_told { IsTold (C.text_of consts.now) (C.items_of consts.now) b }
-    ensures { result ≡ is_one_thing (plain_heap (C.text_of consts.now) (C.items_of consts.now) arena.now) (plain (C.text_of consts.now) (C.items_of consts.now) a) (plain (C.text_of consts.now) (C.items_of consts.now) b) }
+    ensures { result ≡ is_one_thing (plain_heap (C.text_of consts.now) (C.items_of consts.now) arena.now)
+        (plain (C.text_of consts.now) (C.items_of consts.now) a) (plain (C.text_of consts.now) (C.items_of consts.now) b) }
 {
     match a {
         Value::Bool(x) => is_one_truth(x, b),
@@ -82,7 +90,8 @@ fn is_one_tuple<C: Constants>(arena: &Arena, consts: &C, a: Value, b: Value) -> 
     requires b_leads { Leads arena.now.objects b }
     requires a_told { IsTold (C.text_of consts.now) (C.items_of consts.now) a }
     requires b_told { IsTold (C.text_of consts.now) (C.items_of consts.now) b }
-    ensures { result ≡ is_one_thing (plain_heap (C.text_of consts.now) (C.items_of consts.now) arena.now) (plain (C.text_of consts.now) (C.items_of consts.now) a) (plain (C.text_of consts.now) (C.items_of consts.now) b) }
+    ensures { result ≡ is_one_thing (plain_heap (C.text_of consts.now) (C.items_of consts.now) arena.now)
+        (plain (C.text_of consts.now) (C.items_of consts.now) a) (plain (C.text_of consts.now) (C.items_of consts.now) b) }
 {
     nesting_law(consts, a);
     nesting_law(consts, b);
@@ -102,7 +111,9 @@ fn are_one<C: Constants>(arena: &Arena, consts: &C, a: Value, b: Value) -> bool
     requires b_leads { Leads arena.now.objects b }
     requires a_told { IsTold (C.text_of consts.now) (C.items_of consts.now) a }
     requires b_told { IsTold (C.text_of consts.now) (C.items_of consts.now) b }
-    ensures { result ≡ all_one (plain_heap (C.text_of consts.now) (C.items_of consts.now) arena.now) (map (plain (C.text_of consts.now) (C.items_of consts.now)) (items_in (C.items_of consts.now) arena.now a)) (map (plain (C.text_of consts.now) (C.items_of consts.now)) (items_in (C.items_of consts.now) arena.now b)) }
+    ensures { result ≡ all_one (plain_heap (C.text_of consts.now) (C.items_of consts.now) arena.now)
+        (map (plain (C.text_of consts.now) (C.items_of consts.now)) (items_in (C.items_of consts.now) arena.now a))
+        (map (plain (C.text_of consts.now) (C.items_of consts.now)) (items_in (C.items_of consts.now) arena.now b)) }
 {
     let count = item_count(arena, consts, a);
     if count != item_count(arena, consts, b) {

@@ -38,7 +38,9 @@ pub fn order<C: Constants>(
     requires a_told { IsTold (C.text_of consts.now) (C.items_of consts.now) a }
     requires b_told { IsTold (C.text_of consts.now) (C.items_of consts.now) b }
     requires all_told { AllTold (C.text_of consts.now) (C.items_of consts.now) arena.now.objects }
-    ensures answer { option_map (plain_order (C.text_of consts.now) (C.items_of consts.now)) result ≡ (order_of (plain_heap (C.text_of consts.now) (C.items_of consts.now) arena.now) (plain (C.text_of consts.now) (C.items_of consts.now) a) (plain (C.text_of consts.now) (C.items_of consts.now) b)).answer }
+    ensures answer { option_map (plain_order (C.text_of consts.now) (C.items_of consts.now)) result
+        ≡ (order_of (plain_heap (C.text_of consts.now) (C.items_of consts.now) arena.now)
+        (plain (C.text_of consts.now) (C.items_of consts.now) a) (plain (C.text_of consts.now) (C.items_of consts.now) b)).answer }
     ensures lead { IfSome result (λ found. IfErr found (BothLead arena.now.objects)) }
 {
     let mut budget = Budget { left: None };
@@ -52,7 +54,9 @@ pub fn visits_order<C: Constants>(arena: &Arena, consts: &C, a: Value, b: Value,
     requires a_told { IsTold (C.text_of consts.now) (C.items_of consts.now) a }
     requires b_told { IsTold (C.text_of consts.now) (C.items_of consts.now) b }
     requires all_told { AllTold (C.text_of consts.now) (C.items_of consts.now) arena.now.objects }
-    ensures visits { result ≡ min (order_of (plain_heap (C.text_of consts.now) (C.items_of consts.now) arena.now) (plain (C.text_of consts.now) (C.items_of consts.now) a) (plain (C.text_of consts.now) (C.items_of consts.now) b)).visits most }
+    ensures visits { result
+        ≡ min (order_of (plain_heap (C.text_of consts.now) (C.items_of consts.now) arena.now)
+        (plain (C.text_of consts.now) (C.items_of consts.now) a) (plain (C.text_of consts.now) (C.items_of consts.now) b)).visits most }
 {
     let mut budget = Budget { left: Some(most) };
     let _ = order_values(arena, consts, a, b, MAX_WALK_DEPTH as u32, &mut budget);
@@ -74,7 +78,9 @@ fn order_values<C: Constants>(
     requires a_told { IsTold (C.text_of consts.now) (C.items_of consts.now) a }
     requires b_told { IsTold (C.text_of consts.now) (C.items_of consts.now) b }
     requires all_told { AllTold (C.text_of consts.now) (C.items_of consts.now) arena.now.objects }
-    ensures ran { run (order_within (plain_heap (C.text_of consts.now) (C.items_of consts.now) arena.now) depth (plain (C.text_of consts.now) (C.items_of consts.now) a) (plain (C.text_of consts.now) (C.items_of consts.now) b)) budget.old.left ≡ (plain_answer (C.text_of consts.now) (C.items_of consts.now) result, budget.new.left) }
+    ensures ran { run (order_within (plain_heap (C.text_of consts.now) (C.items_of consts.now) arena.now) depth
+        (plain (C.text_of consts.now) (C.items_of consts.now) a) (plain (C.text_of consts.now) (C.items_of consts.now) b)) budget.old.left
+        ≡ (plain_answer (C.text_of consts.now) (C.items_of consts.now) result, budget.new.left) }
     ensures lead { IfOk result (λ found. IfErr found (BothLead arena.now.objects)) }
 {
     if depth == 0 {
@@ -110,7 +116,11 @@ fn order_items<C: Constants>(
     requires all_told { AllTold (C.text_of consts.now) (C.items_of consts.now) arena.now.objects }
     requires a_count { m ≡ length (items_in (C.items_of consts.now) arena.now a) }
     requires b_count { n ≡ length (items_in (C.items_of consts.now) arena.now b) }
-    ensures ran { run (order_of_items (equal_within (plain_heap (C.text_of consts.now) (C.items_of consts.now) arena.now) depth) (order_within (plain_heap (C.text_of consts.now) (C.items_of consts.now) arena.now) depth) (map (plain (C.text_of consts.now) (C.items_of consts.now)) (items_in (C.items_of consts.now) arena.now a)) (map (plain (C.text_of consts.now) (C.items_of consts.now)) (items_in (C.items_of consts.now) arena.now b))) budget.old.left ≡ (plain_answer (C.text_of consts.now) (C.items_of consts.now) result, budget.new.left) }
+    ensures ran { run (order_of_items (equal_within (plain_heap (C.text_of consts.now) (C.items_of consts.now) arena.now) depth)
+        (order_within (plain_heap (C.text_of consts.now) (C.items_of consts.now) arena.now) depth)
+        (map (plain (C.text_of consts.now) (C.items_of consts.now)) (items_in (C.items_of consts.now) arena.now a))
+        (map (plain (C.text_of consts.now) (C.items_of consts.now)) (items_in (C.items_of consts.now) arena.now b))) budget.old.left
+        ≡ (plain_answer (C.text_of consts.now) (C.items_of consts.now) result, budget.new.left) }
     ensures lead { IfOk result (λ found. IfErr found (BothLead arena.now.objects)) }
 {
     for at in 0..m.min(n) {

@@ -48,7 +48,8 @@ impl Cutter {
 impl Pen for Cutter {
     ghost use Rattle.std.specs.Prelude.{◌≡◌, ◌-◌, ◌++◌, length, take, drop};
 
-    ghost Takes = { λ old piece new. (new.skip ≡ old.skip - length piece) × (take new.part.count new.part.bytes ≡ take 4096 (take old.part.count old.part.bytes ++ drop old.skip piece)) };
+    ghost Takes = { λ old piece new. (new.skip ≡ old.skip - length piece)
+        × (take new.part.count new.part.bytes ≡ take 4096 (take old.part.count old.part.bytes ++ drop old.skip piece)) };
 
     fn put(&mut self, piece: &[u8]) {
         let length = piece.len() as u64;

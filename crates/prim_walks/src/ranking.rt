@@ -30,7 +30,14 @@ pub(crate) fn rank<C: Constants>(arena: &Arena, consts: &C, a: Value, b: Value) 
     requires b_leads { Leads arena.now.objects b }
     requires a_told { IsTold (C.text_of consts.now) (C.items_of consts.now) a }
     requires b_told { IsTold (C.text_of consts.now) (C.items_of consts.now) b }
-    ensures ranked { (equal : PlainValue → PlainValue → Walk Bool) (order : PlainValue → PlainValue → Walk (Result Rank PlainUnordered)) → ranked (C.text_of consts.now) (C.items_of consts.now) arena.now a b equal order result ≡ order_shown equal order (plain (C.text_of consts.now) (C.items_of consts.now) a) (plain (C.text_of consts.now) (C.items_of consts.now) b) (shown (plain_heap (C.text_of consts.now) (C.items_of consts.now) arena.now) (plain (C.text_of consts.now) (C.items_of consts.now) a)) (shown (plain_heap (C.text_of consts.now) (C.items_of consts.now) arena.now) (plain (C.text_of consts.now) (C.items_of consts.now) b)) }
+    ensures ranked { (equal : PlainValue → PlainValue → Walk Bool) (order : PlainValue → PlainValue → Walk (Result Rank PlainUnordered))
+        → ranked (C.text_of consts.now) (C.items_of consts.now) arena.now a b equal order result
+        ≡ order_shown equal order (plain (C.text_of consts.now) (C.items_of consts.now) a)
+        (plain (C.text_of consts.now) (C.items_of consts.now) b)
+        (shown (plain_heap (C.text_of consts.now) (C.items_of consts.now) arena.now)
+        (plain (C.text_of consts.now) (C.items_of consts.now) a))
+        (shown (plain_heap (C.text_of consts.now) (C.items_of consts.now) arena.now)
+        (plain (C.text_of consts.now) (C.items_of consts.now) b)) }
     ensures parts { IsRanking (C.text_of consts.now) (C.items_of consts.now) arena.now a b result }
 {
     let other = look_at(arena, consts, b);

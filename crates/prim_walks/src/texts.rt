@@ -28,8 +28,12 @@ pub fn write_text<P: Pen, C: Constants>(
     requires leads { Leads arena.now.objects v }
     requires told { IsTold (C.text_of consts.now) (C.items_of consts.now) v }
     requires all_told { AllTold (C.text_of consts.now) (C.items_of consts.now) arena.now.objects }
-    ensures text { OnSome result (WroteText P.Takes (text_of (plain_heap (C.text_of consts.now) (C.items_of consts.now) arena.now) raw (plain (C.text_of consts.now) (C.items_of consts.now) v)).answer pen.old pen.new) }
-    ensures none { IfNone result ((text_of (plain_heap (C.text_of consts.now) (C.items_of consts.now) arena.now) raw (plain (C.text_of consts.now) (C.items_of consts.now) v)).answer ≡ None) }
+    ensures text { OnSome result
+        (WroteText P.Takes (text_of (plain_heap (C.text_of consts.now) (C.items_of consts.now) arena.now) raw
+        (plain (C.text_of consts.now) (C.items_of consts.now) v)).answer pen.old pen.new) }
+    ensures none { IfNone result
+        ((text_of (plain_heap (C.text_of consts.now) (C.items_of consts.now) arena.now) raw
+        (plain (C.text_of consts.now) (C.items_of consts.now) v)).answer ≡ None) }
 {
     let mut budget = Budget { left: None };
     match write_value(
@@ -51,7 +55,9 @@ pub fn text_len<C: Constants>(arena: &Arena, consts: &C, v: Value, raw: bool) ->
     requires leads { Leads arena.now.objects v }
     requires told { IsTold (C.text_of consts.now) (C.items_of consts.now) v }
     requires all_told { AllTold (C.text_of consts.now) (C.items_of consts.now) arena.now.objects }
-    ensures { result ≡ option_map (λ text. min (length text) (2 ^ 64 - 1)) (text_of (plain_heap (C.text_of consts.now) (C.items_of consts.now) arena.now) raw (plain (C.text_of consts.now) (C.items_of consts.now) v)).answer }
+    ensures { result ≡ option_map (λ text. min (length text) (2 ^ 64 - 1))
+        (text_of (plain_heap (C.text_of consts.now) (C.items_of consts.now) arena.now) raw
+        (plain (C.text_of consts.now) (C.items_of consts.now) v)).answer }
 {
     let mut ruler = Ruler { bytes: 0 };
     match write_text(arena, consts, v, raw, &mut ruler) {
@@ -65,7 +71,9 @@ pub fn visits_text<C: Constants>(arena: &Arena, consts: &C, v: Value, raw: bool,
     requires leads { Leads arena.now.objects v }
     requires told { IsTold (C.text_of consts.now) (C.items_of consts.now) v }
     requires all_told { AllTold (C.text_of consts.now) (C.items_of consts.now) arena.now.objects }
-    ensures visits { result ≡ min (text_of (plain_heap (C.text_of consts.now) (C.items_of consts.now) arena.now) raw (plain (C.text_of consts.now) (C.items_of consts.now) v)).visits most }
+    ensures visits { result
+        ≡ min (text_of (plain_heap (C.text_of consts.now) (C.items_of consts.now) arena.now) raw
+        (plain (C.text_of consts.now) (C.items_of consts.now) v)).visits most }
 {
     let mut budget = Budget { left: Some(most) };
     let mut ruler = Ruler { bytes: 0 };
@@ -92,7 +100,10 @@ pub fn text_part<C: Constants>(
     requires leads { Leads arena.now.objects v }
     requires told { IsTold (C.text_of consts.now) (C.items_of consts.now) v }
     requires all_told { AllTold (C.text_of consts.now) (C.items_of consts.now) arena.now.objects }
-    ensures part { option_map (λ part. take part.count part.bytes) result ≡ option_map (λ text. take 4096 (drop from text)) (text_of (plain_heap (C.text_of consts.now) (C.items_of consts.now) arena.now) raw (plain (C.text_of consts.now) (C.items_of consts.now) v)).answer }
+    ensures part { option_map (λ part. take part.count part.bytes) result
+        ≡ option_map (λ text. take 4096 (drop from text))
+        (text_of (plain_heap (C.text_of consts.now) (C.items_of consts.now) arena.now) raw
+        (plain (C.text_of consts.now) (C.items_of consts.now) v)).answer }
     ensures within { IfSome result (λ part. part.count ≤ 4096) }
     ensures ascii { IfSome result (λ part. All (λ b. b < 128) (take part.count part.bytes)) }
 {
@@ -119,8 +130,11 @@ pub fn whole_text<C: Constants>(
     requires leads { Leads arena.now.objects v }
     requires told { IsTold (C.text_of consts.now) (C.items_of consts.now) v }
     requires all_told { AllTold (C.text_of consts.now) (C.items_of consts.now) arena.now.objects }
-    requires room { IfSome (text_of (plain_heap (C.text_of consts.now) (C.items_of consts.now) arena.now) raw (plain (C.text_of consts.now) (C.items_of consts.now) v)).answer (λ text. length text ≤ vec_capacity bytes) }
-    ensures text { option_map (λ text. text.items) result ≡ (text_of (plain_heap (C.text_of consts.now) (C.items_of consts.now) arena.now) raw (plain (C.text_of consts.now) (C.items_of consts.now) v)).answer }
+    requires room { IfSome (text_of (plain_heap (C.text_of consts.now) (C.items_of consts.now) arena.now) raw
+        (plain (C.text_of consts.now) (C.items_of consts.now) v)).answer (λ text. length text ≤ vec_capacity bytes) }
+    ensures text { option_map (λ text. text.items) result
+        ≡ (text_of (plain_heap (C.text_of consts.now) (C.items_of consts.now) arena.now) raw
+        (plain (C.text_of consts.now) (C.items_of consts.now) v)).answer }
     ensures ascii { IfSome result (λ text. All (λ b. b < 128) text.items) }
 {
     let mut bytes = bytes;

@@ -26,7 +26,11 @@ pub(crate) fn tuple_end<C: Constants>(arena: &Arena, consts: &C, v: Value) -> &'
     requires tuple { IsTuple v }
     requires leads { Leads arena.now.objects v }
     requires told { IsTold (C.text_of consts.now) (C.items_of consts.now) v }
-    ensures written { (write : Bool → PlainValue → Walk (List ℕ)) (raw : Bool) → written (plain_heap (C.text_of consts.now) (C.items_of consts.now) arena.now) write raw (plain (C.text_of consts.now) (C.items_of consts.now) v) ≡ texts_between (plain_heap (C.text_of consts.now) (C.items_of consts.now) arena.now) write (codes "(") result.now (map (plain (C.text_of consts.now) (C.items_of consts.now)) (items_in (C.items_of consts.now) arena.now v)) }
+    ensures written { (write : Bool → PlainValue → Walk (List ℕ)) (raw : Bool)
+        → written (plain_heap (C.text_of consts.now) (C.items_of consts.now) arena.now) write raw
+        (plain (C.text_of consts.now) (C.items_of consts.now) v)
+        ≡ texts_between (plain_heap (C.text_of consts.now) (C.items_of consts.now) arena.now) write (codes "(") result.now
+        (map (plain (C.text_of consts.now) (C.items_of consts.now)) (items_in (C.items_of consts.now) arena.now v)) }
     ensures ascii { All (λ b. b < 128) result.now }
 {
     let _ = look_at(arena, consts, v);

@@ -35,7 +35,9 @@ pub(crate) fn write_value<P: Pen, C: Constants>(
     requires leads { Leads arena.now.objects v }
     requires told { IsTold (C.text_of consts.now) (C.items_of consts.now) v }
     requires all_told { AllTold (C.text_of consts.now) (C.items_of consts.now) arena.now.objects }
-    ensures { Wrought P.Takes (λ text. text) (run (write_within (plain_heap (C.text_of consts.now) (C.items_of consts.now) arena.now) depth raw (plain (C.text_of consts.now) (C.items_of consts.now) v)) budget.old.left) result budget.new.left pen.old pen.new }
+    ensures { Wrought P.Takes (λ text. text)
+        (run (write_within (plain_heap (C.text_of consts.now) (C.items_of consts.now) arena.now) depth raw
+        (plain (C.text_of consts.now) (C.items_of consts.now) v)) budget.old.left) result budget.new.left pen.old pen.new }
 {
     if depth == 0 {
         return Err(Halt::TooDeep);
@@ -76,7 +78,11 @@ fn write_items<P: Pen, C: Constants>(
     requires all_told { AllTold (C.text_of consts.now) (C.items_of consts.now) arena.now.objects }
     requires front { All (λ b. b < 128) front.now }
     requires end { All (λ b. b < 128) end.now }
-    ensures { Wrought P.Takes (λ text. text) (run (texts_between (plain_heap (C.text_of consts.now) (C.items_of consts.now) arena.now) (write_within (plain_heap (C.text_of consts.now) (C.items_of consts.now) arena.now) depth) front.now end.now (map (plain (C.text_of consts.now) (C.items_of consts.now)) (items_in (C.items_of consts.now) arena.now v))) budget.old.left) result budget.new.left pen.old pen.new }
+    ensures { Wrought P.Takes (λ text. text)
+        (run (texts_between (plain_heap (C.text_of consts.now) (C.items_of consts.now) arena.now)
+        (write_within (plain_heap (C.text_of consts.now) (C.items_of consts.now) arena.now) depth) front.now end.now
+        (map (plain (C.text_of consts.now) (C.items_of consts.now)) (items_in (C.items_of consts.now) arena.now v))) budget.old.left)
+        result budget.new.left pen.old pen.new }
 {
     put(pen, front);
     match write_all(arena, consts, v, depth, budget, pen) {
@@ -100,7 +106,10 @@ fn write_all<P: Pen, C: Constants>(
     requires leads { Leads arena.now.objects v }
     requires told { IsTold (C.text_of consts.now) (C.items_of consts.now) v }
     requires all_told { AllTold (C.text_of consts.now) (C.items_of consts.now) arena.now.objects }
-    ensures { Wrought P.Takes (joined (codes ", ")) (run (walk_all (write_within (plain_heap (C.text_of consts.now) (C.items_of consts.now) arena.now) depth false) (map (plain (C.text_of consts.now) (C.items_of consts.now)) (items_in (C.items_of consts.now) arena.now v))) budget.old.left) result budget.new.left pen.old pen.new }
+    ensures { Wrought P.Takes (joined (codes ", "))
+        (run (walk_all (write_within (plain_heap (C.text_of consts.now) (C.items_of consts.now) arena.now) depth false)
+        (map (plain (C.text_of consts.now) (C.items_of consts.now)) (items_in (C.items_of consts.now) arena.now v))) budget.old.left)
+        result budget.new.left pen.old pen.new }
 {
     for at in 0..item_count(arena, consts, v) {
         put_separator(pen, at);
@@ -125,7 +134,11 @@ fn write_dict<P: Pen, C: Constants>(
 ) -> Result<(), Halt>
     requires dict { IsA arena.now.objects ADict d.cell }
     requires all_told { AllTold (C.text_of consts.now) (C.items_of consts.now) arena.now.objects }
-    ensures { Wrought P.Takes (λ text. text) (run (dict_text (plain_heap (C.text_of consts.now) (C.items_of consts.now) arena.now) (write_within (plain_heap (C.text_of consts.now) (C.items_of consts.now) arena.now) depth) (map (plain_pair (C.text_of consts.now) (C.items_of consts.now)) (pairs_at arena.now d.cell))) budget.old.left) result budget.new.left pen.old pen.new }
+    ensures { Wrought P.Takes (λ text. text)
+        (run (dict_text (plain_heap (C.text_of consts.now) (C.items_of consts.now) arena.now)
+        (write_within (plain_heap (C.text_of consts.now) (C.items_of consts.now) arena.now) depth)
+        (map (plain_pair (C.text_of consts.now) (C.items_of consts.now)) (pairs_at arena.now d.cell))) budget.old.left) result
+        budget.new.left pen.old pen.new }
 {
     put(pen, b"{");
     match write_pairs(arena, consts, d, depth, budget, pen) {
@@ -148,7 +161,11 @@ fn write_pairs<P: Pen, C: Constants>(
 ) -> Result<(), Halt>
     requires dict { IsA arena.now.objects ADict d.cell }
     requires all_told { AllTold (C.text_of consts.now) (C.items_of consts.now) arena.now.objects }
-    ensures { Wrought P.Takes (joined (codes ", ")) (run (walk_all (pair_text (plain_heap (C.text_of consts.now) (C.items_of consts.now) arena.now) (write_within (plain_heap (C.text_of consts.now) (C.items_of consts.now) arena.now) depth)) (map (plain_pair (C.text_of consts.now) (C.items_of consts.now)) (pairs_at arena.now d.cell))) budget.old.left) result budget.new.left pen.old pen.new }
+    ensures { Wrought P.Takes (joined (codes ", "))
+        (run (walk_all (pair_text (plain_heap (C.text_of consts.now) (C.items_of consts.now) arena.now)
+        (write_within (plain_heap (C.text_of consts.now) (C.items_of consts.now) arena.now) depth))
+        (map (plain_pair (C.text_of consts.now) (C.items_of consts.now)) (pairs_at arena.now d.cell))) budget.old.left) result
+        budget.new.left pen.old pen.new }
 {
     for at in 0..dict_len(arena, d) {
         put_separator(pen, at);
@@ -177,7 +194,10 @@ fn write_pair<P: Pen, C: Constants>(
     requires key_told { IsTold (C.text_of consts.now) (C.items_of consts.now) key }
     requires told { IsTold (C.text_of consts.now) (C.items_of consts.now) x }
     requires all_told { AllTold (C.text_of consts.now) (C.items_of consts.now) arena.now.objects }
-    ensures { Wrought P.Takes (λ text. text) (run (pair_text (plain_heap (C.text_of consts.now) (C.items_of consts.now) arena.now) (write_within (plain_heap (C.text_of consts.now) (C.items_of consts.now) arena.now) depth) (plain_pair (C.text_of consts.now) (C.items_of consts.now) (key, x))) budget.old.left) result budget.new.left pen.old pen.new }
+    ensures { Wrought P.Takes (λ text. text)
+        (run (pair_text (plain_heap (C.text_of consts.now) (C.items_of consts.now) arena.now)
+        (write_within (plain_heap (C.text_of consts.now) (C.items_of consts.now) arena.now) depth)
+        (plain_pair (C.text_of consts.now) (C.items_of consts.now) (key, x))) budget.old.left) result budget.new.left pen.old pen.new }
 {
     match write_value(arena, consts, key, false, depth, budget, pen) {
         Ok(()) => {}
@@ -200,7 +220,12 @@ fn write_arguments<P: Pen, C: Constants>(
     requires leads { Leads arena.now.objects args }
     requires told { IsTold (C.text_of consts.now) (C.items_of consts.now) args }
     requires all_told { AllTold (C.text_of consts.now) (C.items_of consts.now) arena.now.objects }
-    ensures { Wrought P.Takes (λ text. text) (run (exception_str (plain_heap (C.text_of consts.now) (C.items_of consts.now) arena.now) (write_within (plain_heap (C.text_of consts.now) (C.items_of consts.now) arena.now) depth) (plain (C.text_of consts.now) (C.items_of consts.now) args) (map (plain (C.text_of consts.now) (C.items_of consts.now)) (items_in (C.items_of consts.now) arena.now args))) budget.old.left) result budget.new.left pen.old pen.new }
+    ensures { Wrought P.Takes (λ text. text)
+        (run (exception_str (plain_heap (C.text_of consts.now) (C.items_of consts.now) arena.now)
+        (write_within (plain_heap (C.text_of consts.now) (C.items_of consts.now) arena.now) depth)
+        (plain (C.text_of consts.now) (C.items_of consts.now) args)
+        (map (plain (C.text_of consts.now) (C.items_of consts.now)) (items_in (C.items_of consts.now) arena.now args))) budget.old.left)
+        result budget.new.left pen.old pen.new }
 {
     let count = item_count(arena, consts, args);
     if count == 0 {
@@ -226,7 +251,11 @@ fn write_exception<P: Pen, C: Constants>(
 ) -> Result<(), Halt>
     requires exception { IsA arena.now.objects AnException e.cell }
     requires all_told { AllTold (C.text_of consts.now) (C.items_of consts.now) arena.now.objects }
-    ensures { Wrought P.Takes (λ text. text) (run (object_text (plain_heap (C.text_of consts.now) (C.items_of consts.now) arena.now) (write_within (plain_heap (C.text_of consts.now) (C.items_of consts.now) arena.now) depth) raw (plain_object (C.text_of consts.now) (C.items_of consts.now) (object arena.now.objects e.cell))) budget.old.left) result budget.new.left pen.old pen.new }
+    ensures { Wrought P.Takes (λ text. text)
+        (run (object_text (plain_heap (C.text_of consts.now) (C.items_of consts.now) arena.now)
+        (write_within (plain_heap (C.text_of consts.now) (C.items_of consts.now) arena.now) depth) raw
+        (plain_object (C.text_of consts.now) (C.items_of consts.now) (object arena.now.objects e.cell))) budget.old.left) result
+        budget.new.left pen.old pen.new }
 {
     let (kind, args) = exception_parts(arena, consts, e);
     if raw {

@@ -4,3 +4,7 @@ pub mod Running
 pub mod Going
 pub mod Suspending
 mod Starting
+mod Examples
+pub mod Front
+pub mod Made
+pub mod Puts

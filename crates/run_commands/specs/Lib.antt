@@ -10,3 +10,6 @@ pub mod Go
 pub mod Run
 pub mod Ready
 pub mod Save
+pub mod Draws
+pub mod Source
+pub mod Stress

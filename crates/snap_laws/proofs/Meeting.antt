@@ -1,6 +1,6 @@
 -- The least assignment with some rooms for slots and entries is the least one with each others: where it meets one that keeps the rules
 -- with others, it keeps them with its own.
-use Rattle.std.proofs.Common.{◌≡◌, ℕ, Bool, true, false, List, [], ◌∷◌, Option, Some, None, refl, sym, ◌∙◌, subst}
+use Rattle.std.proofs.Common.{◌≡◌, ℕ, Bool, true, false, List, [], ◌∷◌, Option, Some, None, refl, sym, ap, ◌∙◌, subst, if◌then◌else◌}
 use Rattle.std.specs.Prelude.{slice_get, option_map}
 use Rattle.std.proofs.lemmas.Bool.{false≢true}
 use Rattle.bc_flow.specs.bc_shapes.declared.kinds.Kind.{Kind}
@@ -9,10 +9,10 @@ use Rattle.bc_flow.specs.bc_shapes.declared.shape.Entry.{Entry}
 use Rattle.bc_flow.specs.bc_shapes.Shape.{At, Below, same, value, cause, Belows, none, also, Under, both, same_entries}
 use Rattle.bc_flow.specs.Code.{Code}
 use Rattle.bc_flow.specs.Action.{Action}
-use Rattle.bc_flow.specs.Edges.{Edge, edges, ways}
+use Rattle.bc_flow.specs.Edges.{Edge, Way, edge_of, edges, ways}
 use Rattle.bc_flow.specs.Verified.{Assigned, Leads, Each, none as no_more, also as more, Fine, Holds, Grows, IsLeastOf, begin}
 use Rattle.bc_flow.proofs.bc_shapes_lemmas.Joins.{On, Has, under_trans, same_entries_is, same_entries_from}
-use Rattle.bc_flow.proofs.Mono.{fine_under}
+use Rattle.bc_flow.proofs.Mono.{fine_under, edges_under}
 
 -- kinds
 -- =====

@@ -84,7 +84,8 @@ module _ (p : Program) (callee : Callee) (given : Given) (before : Heap Value �
     pub untold : FailsAtPort called plain_args plain_keys → ⊥
     pub rose : RoseBeyond failed.number earlier later
 
-module _ {S : Type 0} (told : S → Option (List ℕ)) (count : S → ℕ) (p : Program) (place : Place) (callee : Callee) (given : Given) (before behind : Seen S) (old new : Calls) (w : PlainWorld) where
+module _ {S : Type 0} (told : S → Option (List ℕ)) (count : S
+    → ℕ) (p : Program) (place : Place) (callee : Callee) (given : Given) (before behind : Seen S) (old new : Calls) (w : PlainWorld) where
   -- the new calls go on, or the old ones stop, in a world with the same modules, whose output the sink tells, and whose ports
   -- are told
   pub record Goes (result : Result (Unit {0}) Stop) : Type 0 where
@@ -101,7 +102,8 @@ module _ {S : Type 0} (told : S → Option (List ℕ)) (count : S → ℕ) (p : 
     pub heap : behind.heap ≡ before.heap
     pub ports : behind.ports ≡ before.ports
     pub onwards : List Call
-    pub comes : Comes p callee given before.heap w old (running_of p.tables 0 onwards (record (begins_in p callee given before.heap w) { output = w.output ++ text }))
+    pub comes : Comes p callee given before.heap w old
+        (running_of p.tables 0 onwards (record (begins_in p callee given before.heap w) { output = w.output ++ text }))
 
   -- what it comes to, by what it answers
   abbrev pub CallComes : Result (Unit {0}) CallStop → Type 0
@@ -111,7 +113,8 @@ module _ {S : Type 0} (told : S → Option (List ℕ)) (count : S → ℕ) (p : 
 
 -- so it is in each program of the library that the old calls run, where this was fetched for the first of them, and in each
 -- world whose output the sink told and whose ports were told
-abbrev pub CallsIn : {S : Type 0} → (told : S → Option (List ℕ)) → (count : S → ℕ) → Shelf → Fetched → Callee → Given → (before behind : Seen S) → (old new : Calls) → Result (Unit {0}) CallStop → Type 0
+abbrev pub CallsIn : {S : Type 0} → (told : S → Option (List ℕ)) → (count : S → ℕ) → Shelf → Fetched → Callee → Given
+    → (before behind : Seen S) → (old new : Calls) → Result (Unit {0}) CallStop → Type 0
 CallsIn told count shelf fetched callee given before behind old new result =
     (p : Program) (row : Row) → Means p → p.shelf ≡ shelf → IsState p before.heap.objects old → (ready : IsReady p old row fetched)
     → (w : PlainWorld) → told before.out ≡ Some w.output → Tell before.ports w.ports
@@ -150,4 +153,5 @@ module _ (p : Program) (place : Place) (next size : ℕ) (before behind : Heap V
 -- so it is in each program of the library that the old calls run, where this was fetched for the first of them
 abbrev pub HeapComesIn : Shelf → Fetched → (size : ℕ) → (before behind : Heap Value ℕ) → (old new : Calls) → Result (Unit {0}) CallStop → Type 0
 HeapComesIn shelf fetched size before behind old new result =
-    (p : Program) (row : Row) → Means p → p.shelf ≡ shelf → IsState p before.objects old → (ready : IsReady p old row fetched) → HeapComes p ready.place fetched.end size before behind old new result
+    (p : Program) (row : Row) → Means p → p.shelf ≡ shelf → IsState p before.objects old → (ready : IsReady p old row fetched)
+    → HeapComes p ready.place fetched.end size before behind old new result

@@ -57,7 +57,8 @@ callee_slots number_ops.MakeFunctionDefargs = 0
 -- an object that a look-up left lies on a method of its type
 abbrev pub HasMethods : List Slot → Type 0
 HasMethods st =
-    (i : ℕ) (object : Value) (method : Builtin) → slice_get st i ≡ Some (slots.Object (Some object)) → slice_get st (suc i) ≡ Some (slots.Value (values.Built method))
+    (i : ℕ) (object : Value) (method : Builtin) → slice_get st i ≡ Some (slots.Object (Some object))
+    → slice_get st (suc i) ≡ Some (slots.Value (values.Built method))
     → IsMethodOf method object
 
 -- the rooms of the calls stay, and their look-ups lie on methods where the old ones did
@@ -67,7 +68,9 @@ pub record Keeps (old new : Calls) : Type 0 where
 
 -- this is what the instruction calls over the arena, and these are its operands. They are known
 pub record IsTaken (shelf : Shelf) (op : NumberOp) (number : ℕ) (heap : Heap Value ℕ) (s : Calls) (given : Given) (call : Invocation) : Type 0 where
-  pub invokes : (layout : Layout) → Invokes (tables_of (text_at shelf) (items_at shelf) layout) (Plain (instrs.Num (number_op op) number)) call.size heap s.calls given.args given.keys call.callee
+  pub invokes : (layout : Layout)
+      → Invokes (tables_of (text_at shelf) (items_at shelf) layout)
+      (Plain (instrs.Num (number_op op) number)) call.size heap s.calls given.args given.keys call.callee
   pub callee : IsKnownCallee (text_at shelf) (items_at shelf) heap.objects call.callee
   pub operands : AreKnown (text_at shelf) (items_at shelf) heap.objects given
   pub few : length given.args < 256

@@ -57,13 +57,30 @@ pub fn call_on<S: Sink, P: Port>(
     requires few { frames.old.slot_room < 2 ^ 32 }
     requires rows { rows.now ≡ library.now }
     requires taken { IsTaken library.now op number arena.old frames.old operands.now call }
-    ensures called { CallsIn S.told S.count library.now (record { instruction = fetched.Number op number; end = end }) call.callee operands.now (record { heap = arena.old; out = out.old; ports = map P.seen ports.old }) (record { heap = arena.new; out = out.new; ports = map P.seen ports.new }) frames.old frames.new result }
-    ensures heap { HeapComesIn library.now (record { instruction = fetched.Number op number; end = end }) call.size arena.old arena.new frames.old frames.new result }
+    ensures called { CallsIn S.told S.count library.now (record { instruction = fetched.Number op number; end = end }) call.callee operands.now (record {
+      heap = arena.old;
+      out = out.old;
+      ports = map P.seen ports.old;
+    }) (record {
+      heap = arena.new;
+      out = out.new;
+      ports = map P.seen ports.new;
+    }) frames.old frames.new result }
+    ensures heap { HeapComesIn library.now
+        (record { instruction = fetched.Number op number; end = end }) call.size arena.old arena.new frames.old frames.new result }
     ensures counts { Counts (S.count out.old) (S.count out.new) (is_out result) }
     ensures ports { is_out result ≡ true → map P.seen ports.new ≡ map P.seen ports.old }
     ensures faults { CountsKeep (map P.seen ports.old) (map P.seen ports.new) }
     ensures again { RunsAgain library.now (record { instruction = fetched.Number op number; end = end }) arena.old arena.new frames.old frames.new }
-    ensures built { (b : BuiltIn) → call.callee ≡ callees.Built b → IsCalled S.told S.count (text_at library.now) (items_at library.now) (record { heap = arena.old; out = out.old; ports = map P.seen ports.old }) (record { heap = arena.new; out = out.new; ports = map P.seen ports.new }) operands.now.args operands.now.keys b result }
+    ensures built { (b : BuiltIn) → call.callee ≡ callees.Built b → IsCalled S.told S.count (text_at library.now) (items_at library.now) (record {
+      heap = arena.old;
+      out = out.old;
+      ports = map P.seen ports.old;
+    }) (record {
+      heap = arena.new;
+      out = out.new;
+      ports = map P.seen ports.new;
+    }) operands.now.args operands.now.keys b result }
     ensures later { Later arena.old.objects arena.new.objects }
     ensures stop { IsKnownCallStop (text_at library.now) (items_at library.now) arena.new.objects result }
     ensures stays { OnErr result (frames.new ≡ frames.old) }

@@ -39,7 +39,8 @@ pub(crate) fn call_code(
     requires rows { rows.now ≡ library.now }
     requires taken { IsTaken library.now op number arena.now frames.old operands.now call }
     requires callee { call.callee ≡ callees.Runs function }
-    ensures comes { ComesIn library.now (record { instruction = fetched.Number op number; end = end }) (callees.Runs function) operands.now arena.now arena.now frames.old frames.new result }
+    ensures comes { ComesIn library.now (record { instruction = fetched.Number op number; end = end })
+        (callees.Runs function) operands.now arena.now arena.now frames.old frames.new result }
     ensures again { RunsAgain library.now (record { instruction = fetched.Number op number; end = end }) arena.now arena.now frames.old frames.new }
     ensures stop { IsKnownStop (text_at library.now) (items_at library.now) arena.now.objects result }
     ensures stays { OnErr result (frames.new ≡ frames.old) }

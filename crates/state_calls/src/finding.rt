@@ -79,7 +79,8 @@ pub(crate) fn code_of<'b, 'a>(
     function: Function,
 ) -> Option<(u32, &'b Row<'a>)>
     requires { rows.now ≡ library.now }
-    ensures found { IfSome result (λ found. (module_of_name library.now function.module_name ≡ Some found.0) × IsRow library.now found.0 function.code found.1.now) }
+    ensures found { IfSome result (λ found. (module_of_name library.now function.module_name ≡ Some found.0)
+        × IsRow library.now found.0 function.code found.1.now) }
     ensures none { IfNone result (LacksCode library.now function) }
 {
     match module_of(library, rows, function.module_name) {

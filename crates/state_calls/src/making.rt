@@ -27,7 +27,10 @@ pub fn make_function(
     requires runs { RunsIn library.now arena.old frames.old (record { instruction = fetched.Number number_ops.MakeFunction number; end = end }) }
     requires rows { rows.now ≡ library.now }
     requires names { AreNames library.now names.now }
-    ensures acts { ActsIn library.now (record { instruction = fetched.Number number_ops.MakeFunction number; end = end }) 0 arena.old arena.new frames.old frames.new result }
+    ensures acts { ActsIn library.now (record {
+      instruction = fetched.Number number_ops.MakeFunction number;
+      end = end;
+    }) 0 arena.old arena.new frames.old frames.new result }
     ensures stays { OnErr result (frames.new ≡ frames.old) }
     ensures keeps { Keeps frames.old frames.new }
 {
@@ -53,7 +56,10 @@ pub fn make_function_with(
     requires runs { RunsIn library.now arena.old frames.old (record { instruction = fetched.Number number_ops.MakeFunctionDefargs number; end = end }) }
     requires rows { rows.now ≡ library.now }
     requires names { AreNames library.now names.now }
-    ensures acts { ActsIn library.now (record { instruction = fetched.Number number_ops.MakeFunctionDefargs number; end = end }) 0 arena.old arena.new frames.old frames.new result }
+    ensures acts { ActsIn library.now (record {
+      instruction = fetched.Number number_ops.MakeFunctionDefargs number;
+      end = end;
+    }) 0 arena.old arena.new frames.old frames.new result }
     ensures stays { OnErr result (frames.new ≡ frames.old) }
     ensures keeps { Keeps frames.old frames.new }
 {

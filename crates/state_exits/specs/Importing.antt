@@ -37,8 +37,11 @@ pub record Stays (earlier later : Registry) (old new : Calls) : Type 0 where
 module _ (p : Program) where
   -- The machine's step comes from the old calls to the new ones, or to a stop at the place, in each world and whatever was paid.
   -- The new calls are a state of the program, and the modules that are registered are its own; where it stops, both stay
-  pub record Imports (place : effects.Place) (before behind : Heap Value ℕ) (earlier later : Registry) (old new : Calls) (result : Result (Unit {0}) Stop) : Type 0 where
-    pub steps : (paid : ℕ) (w : PlainWorld) → stepped_with p paid old w before earlier ≡ outcome_of p.tables place (with_modules p.tables w later) behind old.calls new.calls result
+  pub record Imports (place : effects.Place) (before behind : Heap Value ℕ) (earlier later : Registry) (old new : Calls)
+      (result : Result (Unit {0}) Stop) : Type 0 where
+    pub steps : (paid : ℕ) (w : PlainWorld)
+        → stepped_with p paid old w before earlier
+        ≡ outcome_of p.tables place (with_modules p.tables w later) behind old.calls new.calls result
     pub state : IsState p behind.objects new
     pub registered : OnOk result (AreRegistered p behind later)
     pub stays : OnErr result (Stays earlier later old new)
@@ -46,7 +49,9 @@ module _ (p : Program) where
     pub stop : IsKnownStop p.tables.texts p.tables.tuples behind.objects result
 
   -- the import went so where the names are these and it was fetched for the first of the old calls
-  abbrev pub ImportsBehind : (StrNo → Option (List ℕ)) → (ConstNo → Option (List Value)) → List ModuleName → Row → (name end : ℕ) → (before behind : Heap Value ℕ) → (earlier later : Registry) → (old new : Calls) → Result (Unit {0}) Stop → Type 0
+  abbrev pub ImportsBehind : (StrNo → Option (List ℕ)) → (ConstNo → Option (List Value)) → List ModuleName → Row → (name end : ℕ)
+      → (before behind : Heap Value ℕ) → (earlier later : Registry) → (old new : Calls) → Result (Unit {0}) Stop → Type 0
   ImportsBehind texts tuples names row name end before behind earlier later old new result =
-      Means p → Tells texts tuples p → AreNames p names → IsState p before.objects old → AreRegistered p before earlier → (ready : IsReady p old row (fetched_import name end))
+      Means p → Tells texts tuples p → AreNames p names → IsState p before.objects old → AreRegistered p before earlier
+      → (ready : IsReady p old row (fetched_import name end))
       → Imports ready.place before behind earlier later old new result

@@ -17,7 +17,8 @@ module _ (p : Program) where
   -- these are the names of the program's modules by their numbers. Their texts, and those of their last parts, are told
   pub record AreNames (names : List ModuleName) : Type 0 where
     pub as_many : length names ≡ length p.shelf.modules
-    pub names_are : (number : ℕ) (m : ModuleName) → slice_get names number ≡ Some m → p.tables.module_name number ≡ plain_name p.tables.texts p.tables.tuples m.name
+    pub names_are : (number : ℕ) (m : ModuleName) → slice_get names number ≡ Some m
+        → p.tables.module_name number ≡ plain_name p.tables.texts p.tables.tuples m.name
     pub told : All (λ m. IsSome (p.tables.texts (strs.Pool m.name))) names
     pub last : All (HasLast p.tables.texts p.tables.tuples) names
 

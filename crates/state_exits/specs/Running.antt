@@ -41,7 +41,8 @@ place_at row offset = record { file = row.source; line = lines.line_of row.line_
 
 -- the calls run a program with these texts, tuples and names of modules over the objects, and this was fetched for the first of
 -- them, of its row
-pub record RunsAt (texts : StrNo → Option (List ℕ)) (tuples : ConstNo → Option (List Value)) (names : List ModuleName) (objects : Objects Value ℕ) (s : Calls) (row : Row) (fetched : Fetched) : Type 0 where
+pub record RunsAt (texts : StrNo → Option (List ℕ)) (tuples : ConstNo
+    → Option (List Value)) (names : List ModuleName) (objects : Objects Value ℕ) (s : Calls) (row : Row) (fetched : Fetched) : Type 0 where
   pub program : Program
   pub means : Means program
   pub tells : Tells texts tuples program
@@ -53,7 +54,9 @@ pub record RunsAt (texts : StrNo → Option (List ℕ)) (tuples : ConstNo → Op
 
 -- the calls run a program of the shelf with these texts, tuples, names of modules and modules registered, and this was fetched for the
 -- first of them, of its row
-pub record RunsWith (texts : StrNo → Option (List ℕ)) (tuples : ConstNo → Option (List Value)) (names : List ModuleName) (shelf : Shelf) (heap : Heap Value ℕ) (modules : Registry) (s : Calls) (row : Row) (fetched : Fetched) : Type 0 where
+pub record RunsWith (texts : StrNo → Option (List ℕ)) (tuples : ConstNo
+    → Option (List Value)) (names : List ModuleName) (shelf : Shelf) (heap : Heap Value ℕ) (modules : Registry) (s : Calls) (row : Row)
+    (fetched : Fetched) : Type 0 where
   pub runs : RunsAt texts tuples names heap.objects s row fetched
   pub shelf_is : runs.program.shelf ≡ shelf
   pub registered : AreRegistered runs.program heap modules
@@ -73,12 +76,15 @@ module _ (p : Program) where
 
   -- the machine's step comes from the old calls to the new ones, or to the end, in each world and whatever was paid
   pub record RunsOn (before behind : Heap Value ℕ) (earlier later : Registry) (old new : Calls) (end : Option End) : Type 0 where
-    pub steps : (paid : ℕ) (w : PlainWorld) → stepped_with paid old w before earlier ≡ state_of p.tables end new.calls (world_of p.tables (with_modules p.tables w later) behind)
+    pub steps : (paid : ℕ) (w : PlainWorld)
+        → stepped_with paid old w before earlier
+        ≡ state_of p.tables end new.calls (world_of p.tables (with_modules p.tables w later) behind)
     pub run : IsRun behind later new end
     pub objects : Later before.objects behind.objects
 
   -- so it is where the names are these and the instruction was fetched for the first of the old calls
-  abbrev pub RunsOnBehind : (StrNo → Option (List ℕ)) → (ConstNo → Option (List Value)) → List ModuleName → Row → Fetched → (before behind : Heap Value ℕ) → (earlier later : Registry) → (old new : Calls) → Option End → Type 0
+  abbrev pub RunsOnBehind : (StrNo → Option (List ℕ)) → (ConstNo → Option (List Value)) → List ModuleName → Row → Fetched
+      → (before behind : Heap Value ℕ) → (earlier later : Registry) → (old new : Calls) → Option End → Type 0
   RunsOnBehind texts tuples names row fetched before behind earlier later old new end =
       Means p → Tells texts tuples p → AreNames p names → IsState p before.objects old → AreRegistered p before earlier → IsReady p old row fetched
       → RunsOn before behind earlier later old new end
@@ -86,9 +92,13 @@ module _ (p : Program) where
   -- The calls stopped at the place in the heap between. The stop comes to the new calls, or to the end, in each world; and
   -- behind it the run goes on or has ended, if the stop is where the machine's step from the program's state came to, or if the
   -- calls are a state of the program in the heap between
-  pub record StopsOn (place : effects.Place) (between behind : Heap Value ℕ) (earlier later : Registry) (old new : Calls) (stop : Stop) (end : Option End) : Type 0 where
-    pub steps : (w : PlainWorld) → stopping_of p.tables place (with_modules p.tables w earlier) between old.calls stop ≡ state_of p.tables end new.calls (world_of p.tables (with_modules p.tables w later) behind)
+  pub record StopsOn (place : effects.Place) (between behind : Heap Value ℕ) (earlier later : Registry) (old new : Calls) (stop : Stop)
+      (end : Option End) : Type 0 where
+    pub steps : (w : PlainWorld)
+        → stopping_of p.tables place (with_modules p.tables w earlier) between old.calls stop
+        ≡ state_of p.tables end new.calls (world_of p.tables (with_modules p.tables w later) behind)
     pub run : (before : Heap Value ℕ) (paid : ℕ) (w v : PlainWorld) → IsState p before.objects old → AreRegistered p before earlier
-        → stepped_with paid old w before earlier ≡ stopping_of p.tables place (with_modules p.tables v earlier) between old.calls stop → IsRun behind later new end
+        → stepped_with paid old w before earlier ≡ stopping_of p.tables place (with_modules p.tables v earlier) between old.calls stop
+        → IsRun behind later new end
     pub again : IsState p between.objects old → AreRegistered p between earlier → IsRun behind later new end
     pub objects : Later between.objects behind.objects

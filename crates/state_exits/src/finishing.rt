@@ -27,9 +27,13 @@ pub fn end_finally_on<C: Constants>(
     names: &[ModuleName],
     end: u32,
 ) -> Option<End>
-    requires runs { (row : CodeRow) × (h : under C.Constants consts.now RunsWith names.now library.now arena.old modules.old frames.old row (fetched_plain plain_ops.EndFinally end)) × KeepsCause h.runs.program frames.old }
+    requires runs { (row : CodeRow)
+        × (h : under C.Constants consts.now RunsWith names.now library.now arena.old modules.old frames.old row
+        (fetched_plain plain_ops.EndFinally end)) × KeepsCause h.runs.program frames.old }
     requires rows { rows.now ≡ library.now }
-    ensures comes { (p : Program) (row : CodeRow) → p.shelf ≡ library.now → KeepsCause p frames.old → under C.Constants consts.now (RunsOnBehind p) names.now row (fetched_plain plain_ops.EndFinally end) arena.old arena.new modules.old modules.new frames.old frames.new result }
+    ensures comes { (p : Program) (row : CodeRow) → p.shelf ≡ library.now → KeepsCause p frames.old
+        → under C.Constants consts.now (RunsOnBehind p) names.now row
+        (fetched_plain plain_ops.EndFinally end) arena.old arena.new modules.old modules.new frames.old frames.new result }
     ensures rooms { frames.new ≡ record frames.old { calls = frames.new.calls } }
     ensures registry { modules.new.room ≡ modules.old.room }
 {

@@ -49,11 +49,17 @@ fn begin<C: Constants>(
     name: u32,
     number: u32,
 ) -> Result<(), Stop>
-    requires runs { (row : CodeRow) × (end : ℕ) × under C.Constants consts.now RunsWith names.now rows.now arena.old modules.old frames.old row (fetched_import name end) }
+    requires runs { (row : CodeRow) × (end : ℕ)
+        × under C.Constants consts.now RunsWith names.now rows.now arena.old modules.old frames.old row (fetched_import name end) }
     requires key { C.text_of consts.now key ≡ Some (codes "__name__") }
     requires short { frames.old.slot_room < 2 ^ 32 }
-    requires import { let see = sight C.Constants consts.now in (from level : Item) (w : PlainWorld) → AreOperands from level frames.old.calls → IsImport see.texts see.tuples rows.now (record w { modules = plain_modules see.texts see.tuples modules.old }) (nat_lt (length frames.old.calls) LIMIT) (see.name name) from level (imports.Begin number) }
-    ensures comes { (p : Program) (row : CodeRow) (end : ℕ) → p.shelf ≡ rows.now → under C.Constants consts.now (ImportsBehind p) names.now row name end arena.old arena.new modules.old modules.new frames.old frames.new result }
+    requires import { let see = sight C.Constants consts.now in (from level : Item) (w : PlainWorld)
+        → AreOperands from level frames.old.calls
+        → IsImport see.texts see.tuples rows.now (record w { modules = plain_modules see.texts see.tuples modules.old })
+        (nat_lt (length frames.old.calls) LIMIT) (see.name name) from level (imports.Begin number) }
+    ensures comes { (p : Program) (row : CodeRow) (end : ℕ) → p.shelf ≡ rows.now
+        → under C.Constants consts.now
+        (ImportsBehind p) names.now row name end arena.old arena.new modules.old modules.new frames.old frames.new result }
     ensures rooms { frames.new ≡ record frames.old { calls = frames.new.calls } }
     ensures registry { modules.new.room ≡ modules.old.room }
 {
@@ -86,7 +92,9 @@ pub fn import_on<C: Constants>(
     requires rows { rows.now ≡ library.now }
     requires key { C.text_of consts.now key ≡ Some (codes "__name__") }
     requires short { frames.old.slot_room < 2 ^ 32 }
-    ensures comes { (p : Program) (row : CodeRow) → p.shelf ≡ rows.now → under C.Constants consts.now (ImportsBehind p) names.now row name end arena.old arena.new modules.old modules.new frames.old frames.new result }
+    ensures comes { (p : Program) (row : CodeRow) → p.shelf ≡ rows.now
+        → under C.Constants consts.now
+        (ImportsBehind p) names.now row name end arena.old arena.new modules.old modules.new frames.old frames.new result }
     ensures rooms { frames.new ≡ record frames.old { calls = frames.new.calls } }
     ensures registry { modules.new.room ≡ modules.old.room }
 {

@@ -24,9 +24,13 @@ use bc_machine::sound_law;
 /// The registered modules are a program's again behind a step of its calls that registers and forgets none, whatever it does to
 /// the heap; and so the main module is the only one where it was made and registered first.
 pub fn registered_law()
-    ensures stays { (p : Program) (s new : Calls) (paid again : ℕ) (before behind : Heap Value ℕ) (modules : Registry) (w v : PlainWorld) → IsState p before.objects s → AreRegistered p before modules
-        → stepped_with p paid s w before modules ≡ running_of p.tables again new.calls (world_of p.tables (with_modules p.tables v modules) behind) → AreRegistered p behind modules }
-    ensures begins { (p : Program) (old new : Heap Value ℕ) (before after : Registry) (made : Made) (name : ℕ) → Formed (plain_heap p.tables.texts p.tables.tuples old) → before.entries ≡ [] → length p.shelf.modules < before.room
+    ensures stays { (p : Program) (s new : Calls) (paid again : ℕ) (before behind : Heap Value ℕ) (modules : Registry) (w v : PlainWorld)
+        → IsState p before.objects s → AreRegistered p before modules
+        → stepped_with p paid s w before modules
+        ≡ running_of p.tables again new.calls (world_of p.tables (with_modules p.tables v modules) behind)
+        → AreRegistered p behind modules }
+    ensures begins { (p : Program) (old new : Heap Value ℕ) (before after : Registry) (made : Made) (name : ℕ)
+        → Formed (plain_heap p.tables.texts p.tables.tuples old) → before.entries ≡ [] → length p.shelf.modules < before.room
         → plain_name p.tables.texts p.tables.tuples name ≡ codes "__main__"
         → IsMaking p.tables.texts p.tables.tuples old new before after (Ok made) (λ w. make_module w (plain_name p.tables.texts p.tables.tuples name))
         → after ≡ with_entry before (record { name = name; object = made.number }) → AreRegistered p new after }

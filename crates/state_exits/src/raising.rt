@@ -51,7 +51,9 @@ pub fn stop_on<C: Constants>(
 ) -> Option<End>
     requires runs { (fetched : FetchedHere) × under C.Constants consts.now RunsAt names.now arena.old.objects frames.old row.now fetched }
     requires stop { KnowsAnswer C.Constants consts.now arena.old (Err stop) }
-    ensures comes { (p : Program) (fetched : FetchedHere) → Means p → under C.Constants consts.now Tells p → AreNames p names.now → IsState p arena.old.objects frames.old → (ready : IsReady p frames.old row.now fetched) → StopsOn p ready.place arena.old arena.new modules.old modules.new frames.old frames.new stop result }
+    ensures comes { (p : Program) (fetched : FetchedHere) → Means p → under C.Constants consts.now Tells p → AreNames p names.now
+        → IsState p arena.old.objects frames.old → (ready : IsReady p frames.old row.now fetched)
+        → StopsOn p ready.place arena.old arena.new modules.old modules.new frames.old frames.new stop result }
     ensures rooms { frames.new ≡ record frames.old { calls = frames.new.calls } }
     ensures registry { modules.new.room ≡ modules.old.room }
 {
@@ -71,7 +73,9 @@ pub fn raise_on<C: Constants>(
     row: &Row<'_>,
 ) -> Option<End>
     requires runs { (end : ℕ) × under C.Constants consts.now RunsAt names.now arena.old.objects frames.old row.now (fetched_plain plain_ops.RaiseObj end) }
-    ensures comes { (p : Program) (end : ℕ) → under C.Constants consts.now (RunsOnBehind p) names.now row.now (fetched_plain plain_ops.RaiseObj end) arena.old arena.new modules.old modules.new frames.old frames.new result }
+    ensures comes { (p : Program) (end : ℕ)
+        → under C.Constants consts.now (RunsOnBehind p) names.now row.now
+        (fetched_plain plain_ops.RaiseObj end) arena.old arena.new modules.old modules.new frames.old frames.new result }
     ensures rooms { frames.new ≡ record frames.old { calls = frames.new.calls } }
     ensures registry { modules.new.room ≡ modules.old.room }
 {
@@ -92,7 +96,9 @@ pub fn raise_again_on<C: Constants>(
     row: &Row<'_>,
 ) -> Option<End>
     requires runs { (end : ℕ) × under C.Constants consts.now RunsAt names.now arena.old.objects frames.old row.now (fetched_plain plain_ops.RaiseLast end) }
-    ensures comes { (p : Program) (end : ℕ) → under C.Constants consts.now (RunsOnBehind p) names.now row.now (fetched_plain plain_ops.RaiseLast end) arena.old arena.new modules.old modules.new frames.old frames.new result }
+    ensures comes { (p : Program) (end : ℕ)
+        → under C.Constants consts.now (RunsOnBehind p) names.now row.now
+        (fetched_plain plain_ops.RaiseLast end) arena.old arena.new modules.old modules.new frames.old frames.new result }
     ensures rooms { frames.new ≡ record frames.old { calls = frames.new.calls } }
     ensures registry { modules.new.room ≡ modules.old.room }
 {

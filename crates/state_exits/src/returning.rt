@@ -31,7 +31,8 @@ fn take(frames: &mut Frames, library: &Library, rows: &Rows<'_>, v: Value)
     requires waits { (p : Program) × Means p × (p.shelf ≡ library.now) × IsWaiting p v frames.old }
     ensures settles { (p : Program) → Means p → p.shelf ≡ library.now → IsWaiting p v frames.old → Settles p (afters.Gives v) frames.old frames.new None }
     ensures same { frames.new ≡ record frames.old { calls = frames.new.calls } }
-    ensures known { (texts : TextName → Option (List ℕ)) (tuples : TupleName → Option (List Item)) (modules : ℕ) (objects : Objects Item ℕ) → IsKnown texts tuples objects v
+    ensures known { (texts : TextName → Option (List ℕ)) (tuples : TupleName → Option (List Item)) (modules : ℕ) (objects : Objects Item ℕ)
+        → IsKnown texts tuples objects v
         → All (IsKnownCall texts tuples modules objects) frames.old.calls → All (IsKnownCall texts tuples modules objects) frames.new.calls }
 {
     rows_law();
@@ -59,7 +60,8 @@ pub(crate) fn settle(
     requires waits { (p : Program) × Means p × (p.shelf ≡ library.now) × IsSettling p after frames.old }
     ensures settles { (p : Program) → Means p → p.shelf ≡ library.now → IsSettling p after frames.old → Settles p after frames.old frames.new result }
     ensures same { frames.new ≡ record frames.old { calls = frames.new.calls } }
-    ensures known { (texts : TextName → Option (List ℕ)) (tuples : TupleName → Option (List Item)) (modules : ℕ) (objects : Objects Item ℕ) → IsKnownAfter texts tuples objects after
+    ensures known { (texts : TextName → Option (List ℕ)) (tuples : TupleName → Option (List Item)) (modules : ℕ) (objects : Objects Item ℕ)
+        → IsKnownAfter texts tuples objects after
         → All (IsKnownCall texts tuples modules objects) frames.old.calls → All (IsKnownCall texts tuples modules objects) frames.new.calls }
     ensures ended { IfSome result (λ end. after ≡ afters.Ends end) }
 {
@@ -84,9 +86,13 @@ pub fn return_on<C: Constants>(
     modules: &Modules,
     names: &[ModuleName],
 ) -> Option<End>
-    requires runs { (end : ℕ) × (row : CodeRow) × under C.Constants consts.now RunsWith names.now library.now arena.old modules.now frames.old row (fetched_plain plain_ops.ReturnValue end) }
+    requires runs { (end : ℕ) × (row : CodeRow)
+        × under C.Constants consts.now RunsWith names.now library.now arena.old modules.now frames.old row
+        (fetched_plain plain_ops.ReturnValue end) }
     requires rows { rows.now ≡ library.now }
-    ensures comes { (p : Program) (end : ℕ) (row : CodeRow) → p.shelf ≡ library.now → under C.Constants consts.now (RunsOnBehind p) names.now row (fetched_plain plain_ops.ReturnValue end) arena.old arena.new modules.now modules.now frames.old frames.new result }
+    ensures comes { (p : Program) (end : ℕ) (row : CodeRow) → p.shelf ≡ library.now
+        → under C.Constants consts.now (RunsOnBehind p) names.now row
+        (fetched_plain plain_ops.ReturnValue end) arena.old arena.new modules.now modules.now frames.old frames.new result }
     ensures rooms { frames.new ≡ record frames.old { calls = frames.new.calls } }
 {
     keeps_law();

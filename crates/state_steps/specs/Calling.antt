@@ -37,7 +37,8 @@ abbrev pub end_in : Result (Option End) SinkFault → Option End
 end_in (Ok end) = end
 end_in (Err failed) = None
 
-module _ {S : Type 0} (told : S → Option (List ℕ)) (count : S → ℕ) (p : Program) (callee : Callee) (given : Given) (before behind : Seen S) (earlier later : Registry) (old new : Calls) where
+module _ {S : Type 0} (told : S → Option (List ℕ)) (count : S
+    → ℕ) (p : Program) (callee : Callee) (given : Given) (before behind : Seen S) (earlier later : Registry) (old new : Calls) where
   -- what happens in one world, in which these modules are registered
   module _ (w : PlainWorld) where
     -- that world
@@ -85,7 +86,9 @@ module _ {S : Type 0} (told : S → Option (List ℕ)) (count : S → ℕ) (p : 
     pub stays : OnErr result OnlyPuts
 
 -- the call goes on so where the names are these and it was fetched for the first of the old calls
-abbrev pub CallsOnBehind : {S : Type 0} → (told : S → Option (List ℕ)) → (count : S → ℕ) → (p : Program) → (StrNo → Option (List ℕ)) → (ConstNo → Option (List Value)) → List ModuleName → Row → Fetched → Callee → Given → (before behind : Seen S) → (earlier later : Registry) → (old new : Calls) → Result (Option End) SinkFault → Type 0
+abbrev pub CallsOnBehind : {S : Type 0} → (told : S → Option (List ℕ)) → (count : S → ℕ) → (p : Program) → (StrNo → Option (List ℕ))
+    → (ConstNo → Option (List Value)) → List ModuleName → Row → Fetched → Callee → Given → (before behind : Seen S)
+    → (earlier later : Registry) → (old new : Calls) → Result (Option End) SinkFault → Type 0
 CallsOnBehind told count p texts tuples names row fetched callee given before behind earlier later old new result =
     Means p → Tells texts tuples p → AreNames p names → IsState p before.heap.objects old → AreRegistered p before.heap earlier → IsReady p old row fetched
     → CallsOn told count p callee given before behind earlier later old new result
@@ -100,12 +103,15 @@ module _ (p : Program) (place : Place) (next size : ℕ) (before behind : Heap V
     steps : {end : Option End} (paid : ℕ) (w v : PlainWorld)
         → stepped_with p paid old w before earlier ≡ state_of p.tables end new.calls (world_of p.tables (with_modules p.tables v later) behind) → Went end
     gives : (v : Value) → new ≡ on_running (with_value next size v) old → Went None
-    raises : {end : Option End} (stop : Stop) (between : Heap Value ℕ) (w v : PlainWorld) → Later before.objects between.objects → Later between.objects behind.objects
-        → stopping_of p.tables place (with_modules p.tables w earlier) between old.calls stop ≡ state_of p.tables end new.calls (world_of p.tables (with_modules p.tables v later) behind) → Went end
+    raises : {end : Option End} (stop : Stop) (between : Heap Value ℕ) (w v : PlainWorld) → Later before.objects between.objects
+        → Later between.objects behind.objects
+        → stopping_of p.tables place (with_modules p.tables w earlier) between old.calls stop
+        ≡ state_of p.tables end new.calls (world_of p.tables (with_modules p.tables v later) behind) → Went end
     same : new ≡ old → behind ≡ before → Went None
 
 -- the call went so where the names are these and it was fetched for the first of the old calls
-abbrev pub WentBehind : (p : Program) → (StrNo → Option (List ℕ)) → (ConstNo → Option (List Value)) → List ModuleName → Row → Fetched → (size : ℕ) → (before behind : Heap Value ℕ) → (earlier later : Registry) → (old new : Calls) → Option End → Type 0
+abbrev pub WentBehind : (p : Program) → (StrNo → Option (List ℕ)) → (ConstNo → Option (List Value)) → List ModuleName → Row → Fetched
+    → (size : ℕ) → (before behind : Heap Value ℕ) → (earlier later : Registry) → (old new : Calls) → Option End → Type 0
 WentBehind p texts tuples names row fetched size before behind earlier later old new end =
     Means p → Tells texts tuples p → AreNames p names → IsState p before.objects old → AreRegistered p before earlier → (ready : IsReady p old row fetched)
     → Went p ready.place fetched.end size before behind earlier later old new end

@@ -33,7 +33,8 @@ module _ (p : Program) where
     pub objects : Later before.objects behind.objects
 
   -- so it is where the names are these and the instruction was fetched for the first of the old calls
-  abbrev pub ComesOnBehind : (StrNo → Option (List ℕ)) → (ConstNo → Option (List Value)) → List ModuleName → Row → Fetched → (visits : ℕ) → (before behind : Heap Value ℕ) → (earlier later : Registry) → (old new : Calls) → Option End → Type 0
+  abbrev pub ComesOnBehind : (StrNo → Option (List ℕ)) → (ConstNo → Option (List Value)) → List ModuleName → Row → Fetched → (visits : ℕ)
+      → (before behind : Heap Value ℕ) → (earlier later : Registry) → (old new : Calls) → Option End → Type 0
   ComesOnBehind texts tuples names row fetched visits before behind earlier later old new end =
       Means p → Tells texts tuples p → AreNames p names → IsState p before.objects old → AreRegistered p before earlier → IsReady p old row fetched
       → ComesOn visits before behind earlier later old new end

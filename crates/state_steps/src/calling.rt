@@ -43,16 +43,33 @@ pub fn call<S: Sink, P: Port>(
     call: Invocation,
 ) -> Result<Option<End>, Failed>
     requires calls { CallsValue op }
-    requires runs { RunsWith (text_at library.now) (items_at library.now) names.now library.now arena.old modules.old frames.old row.now (record { instruction = fetched_as.Number op number; end = end }) }
+    requires runs { RunsWith (text_at library.now) (items_at library.now) names.now library.now arena.old modules.old frames.old row.now (record {
+      instruction = fetched_as.Number op number;
+      end = end;
+    }) }
     requires read { OfRunning (IsFetchedAt library.now (record { instruction = fetched_as.Number op number; end = end })) frames.old.calls }
     requires few { frames.old.slot_room < 2 ^ 32 }
     requires roomy { frames.old.slot_room ≤ bindings.old.room }
     requires rows { rows.now ≡ library.now }
     requires taken { IsTaken library.now op number arena.old frames.old operands.now call }
     ensures comes { (p : Program) → p.shelf ≡ library.now
-        → CallsOnBehind S.told S.count p (text_at library.now) (items_at library.now) names.now row.now (record { instruction = fetched_as.Number op number; end = end }) call.callee operands.now (record { heap = arena.old; out = out.old; ports = map P.seen ports.old }) (record { heap = arena.new; out = out.new; ports = map P.seen ports.new }) modules.old modules.new frames.old frames.new result }
+        → CallsOnBehind S.told S.count p (text_at library.now) (items_at library.now) names.now row.now (record {
+          instruction = fetched_as.Number op number;
+          end = end;
+        }) call.callee operands.now (record {
+          heap = arena.old;
+          out = out.old;
+          ports = map P.seen ports.old;
+        }) (record {
+          heap = arena.new;
+          out = out.new;
+          ports = map P.seen ports.new;
+        }) modules.old modules.new frames.old frames.new result }
     ensures went { (p : Program) → p.shelf ≡ library.now
-        → WentBehind p (text_at library.now) (items_at library.now) names.now row.now (record { instruction = fetched_as.Number op number; end = end }) call.size arena.old arena.new modules.old modules.new frames.old frames.new (end_in result) }
+        → WentBehind p (text_at library.now) (items_at library.now) names.now row.now (record {
+          instruction = fetched_as.Number op number;
+          end = end;
+        }) call.size arena.old arena.new modules.old modules.new frames.old frames.new (end_in result) }
     ensures counts { Counts (S.count out.old) (S.count out.new) (is_err result) }
     ensures faults { CountsKeep (map P.seen ports.old) (map P.seen ports.new) }
     ensures rooms { frames.new ≡ record frames.old { calls = frames.new.calls } }

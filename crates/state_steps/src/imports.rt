@@ -33,7 +33,9 @@ pub fn import<C: Constants>(
     requires rows { rows.now ≡ library.now }
     requires key { C.text_of consts.now key ≡ Some (codes "__name__") }
     requires short { frames.old.slot_room < 2 ^ 32 }
-    ensures comes { (p : Program) → p.shelf ≡ rows.now → under C.Constants consts.now (ComesOnBehind p) names.now row.now (fetched_import name end) 0 arena.old arena.new modules.old modules.new frames.old frames.new result }
+    ensures comes { (p : Program) → p.shelf ≡ rows.now
+        → under C.Constants consts.now (ComesOnBehind p) names.now row.now
+        (fetched_import name end) 0 arena.old arena.new modules.old modules.new frames.old frames.new result }
     ensures rooms { frames.new ≡ record frames.old { calls = frames.new.calls } }
     ensures registry { modules.new.room ≡ modules.old.room }
 {

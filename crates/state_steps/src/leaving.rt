@@ -28,7 +28,9 @@ pub fn leave<C: Constants>(
     requires leaves { LeavesCall op }
     requires runs { (end : ℕ) × under C.Constants consts.now RunsWith names.now library.now arena.old modules.old frames.old row.now (fetched_plain op end) }
     requires rows { rows.now ≡ library.now }
-    ensures comes { (p : Program) (end : ℕ) → p.shelf ≡ library.now → under C.Constants consts.now (RunsOnBehind p) names.now row.now (fetched_plain op end) arena.old arena.new modules.old modules.new frames.old frames.new result }
+    ensures comes { (p : Program) (end : ℕ) → p.shelf ≡ library.now
+        → under C.Constants consts.now (RunsOnBehind p) names.now row.now
+        (fetched_plain op end) arena.old arena.new modules.old modules.new frames.old frames.new result }
     ensures rooms { frames.new ≡ record frames.old { calls = frames.new.calls } }
     ensures registry { modules.new.room ≡ modules.old.room }
 {

@@ -29,10 +29,16 @@ pub fn make(
     number: u32,
     end: u32,
 ) -> Option<End>
-    requires runs { RunsWith (text_at library.now) (items_at library.now) names.now library.now arena.old modules.old frames.old row.now (record { instruction = fetched_as.Number number_ops.MakeFunction number; end = end }) }
+    requires runs { RunsWith (text_at library.now) (items_at library.now) names.now library.now arena.old modules.old frames.old row.now (record {
+      instruction = fetched_as.Number number_ops.MakeFunction number;
+      end = end;
+    }) }
     requires rows { rows.now ≡ library.now }
     ensures comes { (p : Program) → p.shelf ≡ library.now
-        → ComesOnBehind p (text_at library.now) (items_at library.now) names.now row.now (record { instruction = fetched_as.Number number_ops.MakeFunction number; end = end }) 0 arena.old arena.new modules.old modules.new frames.old frames.new result }
+        → ComesOnBehind p (text_at library.now) (items_at library.now) names.now row.now (record {
+          instruction = fetched_as.Number number_ops.MakeFunction number;
+          end = end;
+        }) 0 arena.old arena.new modules.old modules.new frames.old frames.new result }
     ensures rooms { frames.new ≡ record frames.old { calls = frames.new.calls } }
     ensures registry { modules.new.room ≡ modules.old.room }
 {
@@ -58,10 +64,16 @@ pub fn make_with(
     number: u32,
     end: u32,
 ) -> Option<End>
-    requires runs { RunsWith (text_at library.now) (items_at library.now) names.now library.now arena.old modules.old frames.old row.now (record { instruction = fetched_as.Number number_ops.MakeFunctionDefargs number; end = end }) }
+    requires runs { RunsWith (text_at library.now) (items_at library.now) names.now library.now arena.old modules.old frames.old row.now (record {
+      instruction = fetched_as.Number number_ops.MakeFunctionDefargs number;
+      end = end;
+    }) }
     requires rows { rows.now ≡ library.now }
     ensures comes { (p : Program) → p.shelf ≡ library.now
-        → ComesOnBehind p (text_at library.now) (items_at library.now) names.now row.now (record { instruction = fetched_as.Number number_ops.MakeFunctionDefargs number; end = end }) 0 arena.old arena.new modules.old modules.new frames.old frames.new result }
+        → ComesOnBehind p (text_at library.now) (items_at library.now) names.now row.now (record {
+          instruction = fetched_as.Number number_ops.MakeFunctionDefargs number;
+          end = end;
+        }) 0 arena.old arena.new modules.old modules.new frames.old frames.new result }
     ensures rooms { frames.new ≡ record frames.old { calls = frames.new.calls } }
     ensures registry { modules.new.room ≡ modules.old.room }
 {

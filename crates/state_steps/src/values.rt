@@ -33,7 +33,8 @@ fn name_or_attribute<C: Constants>(
 ) -> Result<(), Stop>
     requires operation { UsesName op }
     requires runs { under C.Constants consts.now RunsOver arena.old frames.old (record { instruction = fetched_as.Name op name; end = end }) }
-    ensures acts { under C.Constants consts.now ActsKeeping (record { instruction = fetched_as.Name op name; end = end }) 0 arena.old arena.new frames.old frames.new result }
+    ensures acts { under C.Constants consts.now ActsKeeping
+        (record { instruction = fetched_as.Name op name; end = end }) 0 arena.old arena.new frames.old frames.new result }
 {
     match op {
         NameOp::LoadConstString => name_on(frames, arena, consts, op, name, end),
@@ -63,7 +64,9 @@ fn act_on<C: Constants>(
     requires values { ActsOnValues fetched.instruction }
     requires places { frames.old.slot_room ≤ length items.old }
     requires runs { under C.Constants consts.now RunsOver arena.old frames.old fetched }
-    ensures acts { under C.Constants consts.now ActsKeeping fetched (under C.Constants consts.now value_visits arena.old frames.old.calls fetched.instruction) arena.old arena.new frames.old frames.new result }
+    ensures acts { under C.Constants consts.now ActsKeeping fetched
+        (under C.Constants consts.now value_visits arena.old frames.old.calls fetched.instruction) arena.old arena.new frames.old
+        frames.new result }
 {
     let end = fetched.end;
     match fetched.instruction {
@@ -98,7 +101,10 @@ pub fn operate<C: Constants>(
     requires values { ActsOnValues fetched.instruction }
     requires places { frames.old.slot_room ≤ length items.old }
     requires runs { (shelf : Shelf) × under C.Constants consts.now RunsWith names.now shelf arena.old modules.old frames.old row.now fetched }
-    ensures comes { (p : Program) → under C.Constants consts.now (ComesOnBehind p) names.now row.now fetched (under C.Constants consts.now value_visits arena.old frames.old.calls fetched.instruction) arena.old arena.new modules.old modules.new frames.old frames.new result }
+    ensures comes { (p : Program)
+        → under C.Constants consts.now (ComesOnBehind p) names.now row.now fetched
+        (under C.Constants consts.now value_visits arena.old frames.old.calls fetched.instruction) arena.old arena.new modules.old
+        modules.new frames.old frames.new result }
     ensures rooms { frames.new ≡ record frames.old { calls = frames.new.calls } }
     ensures registry { modules.new.room ≡ modules.old.room }
 {

@@ -10,7 +10,9 @@ use Rattle.vm_states.specs.vm_fetching.declared.instruction.Fetched.{Fetched}
 use Rattle.vm_states.specs.Acting.{ActsBehind}
 
 -- it acts so in each program, the rooms of the calls stay, and where it stops all of the calls do
-pub record ActsKeeping (texts : StrNo → Option (List ℕ)) (tuples : ConstNo → Option (List Value)) (fetched : Fetched) (visits : ℕ) (before behind : Heap Value ℕ) (old new : Calls) (result : Result (Unit {0}) Stop) : Type 0 where
+pub record ActsKeeping (texts : StrNo → Option (List ℕ)) (tuples : ConstNo
+    → Option (List Value)) (fetched : Fetched) (visits : ℕ) (before behind : Heap Value ℕ) (old new : Calls)
+    (result : Result (Unit {0}) Stop) : Type 0 where
   pub acts : ActsBehind texts tuples fetched visits before behind old new result
   pub rooms : new ≡ record old { calls = new.calls }
   pub stays : OnErr result (new ≡ old)

@@ -37,7 +37,8 @@ module _ (texts : StrNo → Option (List ℕ)) (tuples : ConstNo → Option (Lis
     pub locals_of : Call → List (Option Value)
     pub moved : new ≡ on_running (λ c. record c { at = offset; slots = slots_of c; locals = locals_of c }) old
     pub slots_known : (c : Call) → All (IsKnownSlot texts tuples objects) c.slots → All (IsKnownSlot texts tuples objects) (slots_of c)
-    pub locals_known : (c : Call) → All (λ v. IfSome v (IsKnown texts tuples objects)) c.locals → All (λ v. IfSome v (IsKnown texts tuples objects)) (locals_of c)
+    pub locals_known : (c : Call) → All (λ v. IfSome v (IsKnown texts tuples objects)) c.locals
+        → All (λ v. IfSome v (IsKnown texts tuples objects)) (locals_of c)
 
   -- the calls have gone on where the instruction is done, and are as they were where it stopped
   abbrev pub GoesOnward : Objects Value ℕ → (offset : ℕ) → (old new : Calls) → Result (Unit {0}) Stop → Type 0

@@ -29,7 +29,8 @@ running_value (c ∷ cs) slot = value_in (slice_get c.slots slot)
 module _ (texts : StrNo → Option (List ℕ)) (tuples : ConstNo → Option (List Value)) (heap : Heap Value ℕ) where
   -- the visits of the operator of this number over two operands
   abbrev pub visits_over : (number : ℕ) → (left right : Option Value) → ℕ
-  visits_over number (Some left) (Some right) = visits_of (operator_at number) (plain_heap texts tuples heap) (plain texts tuples left) (plain texts tuples right)
+  visits_over number (Some left) (Some right) =
+      visits_of (operator_at number) (plain_heap texts tuples heap) (plain texts tuples left) (plain texts tuples right)
   visits_over number (Some left) None = 0
   visits_over number None right = 0
 

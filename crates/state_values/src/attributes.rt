@@ -21,7 +21,10 @@ pub(crate) fn load_attr<C: Constants>(
     end: u32,
 ) -> Result<(), Stop>
     requires runs { under C.Constants consts.now RunsOver arena.old frames.old (record { instruction = fetched.Name name_ops.LoadAttr name; end = end }) }
-    ensures acts { under C.Constants consts.now ActsKeeping (record { instruction = fetched.Name name_ops.LoadAttr name; end = end }) 0 arena.old arena.new frames.old frames.new result }
+    ensures acts { under C.Constants consts.now ActsKeeping (record {
+      instruction = fetched.Name name_ops.LoadAttr name;
+      end = end;
+    }) 0 arena.old arena.new frames.old frames.new result }
 {
     acting_law();
     tops_law();
@@ -37,7 +40,10 @@ pub(crate) fn load_method<C: Constants>(
     end: u32,
 ) -> Result<(), Stop>
     requires runs { under C.Constants consts.now RunsOver arena.now frames.old (record { instruction = fetched.Name name_ops.LoadMethod name; end = end }) }
-    ensures acts { under C.Constants consts.now ActsKeeping (record { instruction = fetched.Name name_ops.LoadMethod name; end = end }) 0 arena.now arena.now frames.old frames.new result }
+    ensures acts { under C.Constants consts.now ActsKeeping (record {
+      instruction = fetched.Name name_ops.LoadMethod name;
+      end = end;
+    }) 0 arena.now arena.now frames.old frames.new result }
 {
     acting_law();
     tops_law();
@@ -53,7 +59,10 @@ pub(crate) fn store_attr<C: Constants>(
     end: u32,
 ) -> Result<(), Stop>
     requires runs { under C.Constants consts.now RunsOver arena.old frames.old (record { instruction = fetched.Name name_ops.StoreAttr name; end = end }) }
-    ensures acts { under C.Constants consts.now ActsKeeping (record { instruction = fetched.Name name_ops.StoreAttr name; end = end }) 0 arena.old arena.new frames.old frames.new result }
+    ensures acts { under C.Constants consts.now ActsKeeping (record {
+      instruction = fetched.Name name_ops.StoreAttr name;
+      end = end;
+    }) 0 arena.old arena.new frames.old frames.new result }
 {
     acting_law();
     tops_law();
@@ -69,7 +78,10 @@ pub(crate) fn import_from<C: Constants>(
     end: u32,
 ) -> Result<(), Stop>
     requires runs { under C.Constants consts.now RunsOver arena.old frames.old (record { instruction = fetched.Name name_ops.ImportFrom name; end = end }) }
-    ensures acts { under C.Constants consts.now ActsKeeping (record { instruction = fetched.Name name_ops.ImportFrom name; end = end }) 0 arena.old arena.new frames.old frames.new result }
+    ensures acts { under C.Constants consts.now ActsKeeping (record {
+      instruction = fetched.Name name_ops.ImportFrom name;
+      end = end;
+    }) 0 arena.old arena.new frames.old frames.new result }
 {
     acting_law();
     tops_law();

@@ -23,7 +23,9 @@ use vm_states::{JumpOp, top_truth, tops_law};
 pub fn jump_by(frames: &mut Frames, op: JumpOp, truth: bool, target: u32, end: u32)
     requires test { IsTest op }
     requires there { OfRunning (λ c. 0 < length c.slots) frames.old.calls }
-    ensures steps { (tables : Tables) (w : PlainWorld) (position : ℕ) → IsAt tables target position frames.old.calls → IsNext tables end frames.old.calls → Tests tables w truth frames.old.calls → Steps tables w (Jumps (jump_op op) position) frames.old.calls frames.new.calls }
+    ensures steps { (tables : Tables) (w : PlainWorld) (position : ℕ) → IsAt tables target position frames.old.calls
+        → IsNext tables end frames.old.calls → Tests tables w truth frames.old.calls
+        → Steps tables w (Jumps (jump_op op) position) frames.old.calls frames.new.calls }
     ensures moved { frames.new ≡ on_running (tested op truth target end) frames.old }
 {
     match op {
@@ -50,7 +52,8 @@ pub(crate) fn test_jump<C: Constants>(
 ) -> Result<(), Stop>
     requires test { IsTest op }
     requires runs { under C.Constants consts.now RunsOver arena.now frames.old (record { instruction = fetched.Jump op target; end = end }) }
-    ensures acts { under C.Constants consts.now ActsKeeping (record { instruction = fetched.Jump op target; end = end }) 0 arena.now arena.now frames.old frames.new result }
+    ensures acts { under C.Constants consts.now ActsKeeping
+        (record { instruction = fetched.Jump op target; end = end }) 0 arena.now arena.now frames.old frames.new result }
 {
     acting_law();
     tops_law();

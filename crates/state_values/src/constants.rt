@@ -13,6 +13,8 @@ ghost use Rattle.vm_states.specs.Means.{Program, Means};
 
 /// An object of one of a program's modules is known over each arena, and so is a small integer.
 pub fn constants_law()
-    ensures object { (p : Program) (objects : Objects Value ℕ) (i n : ℕ) (v : Value) → Means p → object_value p.shelf i n ≡ Some v → IsKnown p.tables.texts p.tables.tuples objects v }
-    ensures int { (texts : StrNo → Option (List ℕ)) (tuples : ConstNo → Option (List Value)) (objects : Objects Value ℕ) (z : ℤ) → IsSmall z → IsKnown texts tuples objects (values.Int z) }
+    ensures object { (p : Program) (objects : Objects Value ℕ) (i n : ℕ) (v : Value) → Means p → object_value p.shelf i n ≡ Some v
+        → IsKnown p.tables.texts p.tables.tuples objects v }
+    ensures int { (texts : StrNo → Option (List ℕ)) (tuples : ConstNo → Option (List Value)) (objects : Objects Value ℕ) (z : ℤ)
+        → IsSmall z → IsKnown texts tuples objects (values.Int z) }
 {}

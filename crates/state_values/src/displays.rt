@@ -24,7 +24,10 @@ pub(crate) fn build_tuple<C: Constants>(
 ) -> Result<(), Stop>
     requires places { length items.old ≡ n }
     requires runs { under C.Constants consts.now RunsOver arena.old frames.old (record { instruction = fetched.Number number_ops.BuildTuple n; end = end }) }
-    ensures acts { under C.Constants consts.now ActsKeeping (record { instruction = fetched.Number number_ops.BuildTuple n; end = end }) 0 arena.old arena.new frames.old frames.new result }
+    ensures acts { under C.Constants consts.now ActsKeeping (record {
+      instruction = fetched.Number number_ops.BuildTuple n;
+      end = end;
+    }) 0 arena.old arena.new frames.old frames.new result }
 {
     acting_law();
     tops_law();
@@ -43,7 +46,10 @@ pub(crate) fn build_list<C: Constants>(
 ) -> Result<(), Stop>
     requires places { length items.old ≡ n }
     requires runs { under C.Constants consts.now RunsOver arena.old frames.old (record { instruction = fetched.Number number_ops.BuildList n; end = end }) }
-    ensures acts { under C.Constants consts.now ActsKeeping (record { instruction = fetched.Number number_ops.BuildList n; end = end }) 0 arena.old arena.new frames.old frames.new result }
+    ensures acts { under C.Constants consts.now ActsKeeping (record {
+      instruction = fetched.Number number_ops.BuildList n;
+      end = end;
+    }) 0 arena.old arena.new frames.old frames.new result }
 {
     acting_law();
     tops_law();
@@ -60,7 +66,10 @@ pub(crate) fn build_map<C: Constants>(
     end: u32,
 ) -> Result<(), Stop>
     requires runs { under C.Constants consts.now RunsOver arena.old frames.old (record { instruction = fetched.Number number_ops.BuildMap pairs; end = end }) }
-    ensures acts { under C.Constants consts.now ActsKeeping (record { instruction = fetched.Number number_ops.BuildMap pairs; end = end }) 0 arena.old arena.new frames.old frames.new result }
+    ensures acts { under C.Constants consts.now ActsKeeping (record {
+      instruction = fetched.Number number_ops.BuildMap pairs;
+      end = end;
+    }) 0 arena.old arena.new frames.old frames.new result }
 {
     acting_law();
     frame_values::build_map(frames, arena, consts, pairs, end)
@@ -76,8 +85,14 @@ pub(crate) fn unpack_sequence<C: Constants>(
     end: u32,
 ) -> Result<(), Stop>
     requires places { length items.old ≡ n }
-    requires runs { under C.Constants consts.now RunsOver arena.old frames.old (record { instruction = fetched.Number number_ops.UnpackSequence n; end = end }) }
-    ensures acts { under C.Constants consts.now ActsKeeping (record { instruction = fetched.Number number_ops.UnpackSequence n; end = end }) 0 arena.old arena.new frames.old frames.new result }
+    requires runs { under C.Constants consts.now RunsOver arena.old frames.old (record {
+      instruction = fetched.Number number_ops.UnpackSequence n;
+      end = end;
+    }) }
+    ensures acts { under C.Constants consts.now ActsKeeping (record {
+      instruction = fetched.Number number_ops.UnpackSequence n;
+      end = end;
+    }) 0 arena.old arena.new frames.old frames.new result }
 {
     acting_law();
     tops_law();

@@ -38,7 +38,10 @@ pub(crate) fn for_iter<C: Constants>(
     end: u32,
 ) -> Result<(), Stop>
     requires runs { under C.Constants consts.now RunsOver arena.old frames.old (record { instruction = fetched.Jump jump_ops.ForIter target; end = end }) }
-    ensures acts { under C.Constants consts.now ActsKeeping (record { instruction = fetched.Jump jump_ops.ForIter target; end = end }) 0 arena.old arena.new frames.old frames.new result }
+    ensures acts { under C.Constants consts.now ActsKeeping (record {
+      instruction = fetched.Jump jump_ops.ForIter target;
+      end = end;
+    }) 0 arena.old arena.new frames.old frames.new result }
 {
     acting_law();
     tops_law();

@@ -18,8 +18,11 @@ use vm_states::{keeps_law, known_law};
 /// An instruction acts in each program as it does there, where the running call goes on at the start of an instruction with known
 /// slots and locals; and one that moves frames alone acts as it goes, where the running call stays known.
 pub fn acting_law()
-    ensures acts { (texts : StrNo → Option (List ℕ)) (tuples : ConstNo → Option (List Value)) (fetched : Fetched) (visits offset : ℕ) (before behind : Heap Value ℕ) (old new : Calls) (result : Result (Unit {0}) Stop)
-        → StartsBehind fetched offset → DoesBehind texts tuples fetched visits before behind old new result → GoesOnward texts tuples behind.objects offset old new result
+    ensures acts { (texts : StrNo → Option (List ℕ)) (tuples : ConstNo
+        → Option (List Value)) (fetched : Fetched) (visits offset : ℕ) (before behind : Heap Value ℕ) (old new : Calls)
+        (result : Result (Unit {0}) Stop)
+        → StartsBehind fetched offset → DoesBehind texts tuples fetched visits before behind old new result
+        → GoesOnward texts tuples behind.objects offset old new result
         → Leaves texts tuples before behind result → ActsKeeping texts tuples fetched visits before behind old new result }
     ensures moves { (texts : StrNo → Option (List ℕ)) (tuples : ConstNo → Option (List Value)) (fetched : Fetched) (heap : Heap Value ℕ) (old new : Calls)
         → GoesBehind fetched old new → Changed texts tuples heap.objects old new → ActsKeeping texts tuples fetched 0 heap heap old new (Ok tt) }

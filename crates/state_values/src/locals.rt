@@ -20,7 +20,10 @@ pub(crate) fn load_fast<C: Constants>(
     end: u32,
 ) -> Result<(), Stop>
     requires runs { under C.Constants consts.now RunsOver arena.now frames.old (record { instruction = fetched.Number number_ops.LoadFast n; end = end }) }
-    ensures acts { under C.Constants consts.now ActsKeeping (record { instruction = fetched.Number number_ops.LoadFast n; end = end }) 0 arena.now arena.now frames.old frames.new result }
+    ensures acts { under C.Constants consts.now ActsKeeping (record {
+      instruction = fetched.Number number_ops.LoadFast n;
+      end = end;
+    }) 0 arena.now arena.now frames.old frames.new result }
 {
     acting_law();
     frame_values::load_fast(frames, arena, consts, n, end)
@@ -35,7 +38,10 @@ pub(crate) fn load_fast_n<C: Constants>(
     end: u32,
 ) -> Result<(), Stop>
     requires runs { under C.Constants consts.now RunsOver arena.now frames.old (record { instruction = fetched.Number number_ops.LoadFastN n; end = end }) }
-    ensures acts { under C.Constants consts.now ActsKeeping (record { instruction = fetched.Number number_ops.LoadFastN n; end = end }) 0 arena.now arena.now frames.old frames.new result }
+    ensures acts { under C.Constants consts.now ActsKeeping (record {
+      instruction = fetched.Number number_ops.LoadFastN n;
+      end = end;
+    }) 0 arena.now arena.now frames.old frames.new result }
 {
     acting_law();
     frame_values::load_fast(frames, arena, consts, n, end)
@@ -50,7 +56,10 @@ pub(crate) fn delete_fast<C: Constants>(
     end: u32,
 ) -> Result<(), Stop>
     requires runs { under C.Constants consts.now RunsOver arena.now frames.old (record { instruction = fetched.Number number_ops.DeleteFast n; end = end }) }
-    ensures acts { under C.Constants consts.now ActsKeeping (record { instruction = fetched.Number number_ops.DeleteFast n; end = end }) 0 arena.now arena.now frames.old frames.new result }
+    ensures acts { under C.Constants consts.now ActsKeeping (record {
+      instruction = fetched.Number number_ops.DeleteFast n;
+      end = end;
+    }) 0 arena.now arena.now frames.old frames.new result }
 {
     acting_law();
     frame_values::delete_fast(frames, arena, consts, n, end)

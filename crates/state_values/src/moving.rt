@@ -45,7 +45,10 @@ pub fn store_fast<C: Constants>(
     end: u32,
 ) -> Result<(), Stop>
     requires runs { under C.Constants _consts.now RunsOver _arena.now frames.old (record { instruction = fetched.Number number_ops.StoreFast n; end = end }) }
-    ensures acts { under C.Constants _consts.now ActsKeeping (record { instruction = fetched.Number number_ops.StoreFast n; end = end }) 0 _arena.now _arena.now frames.old frames.new result }
+    ensures acts { under C.Constants _consts.now ActsKeeping (record {
+      instruction = fetched.Number number_ops.StoreFast n;
+      end = end;
+    }) 0 _arena.now _arena.now frames.old frames.new result }
 {
     acting_law();
     tops_law();
@@ -62,7 +65,10 @@ pub fn store_fast_n<C: Constants>(
     end: u32,
 ) -> Result<(), Stop>
     requires runs { under C.Constants _consts.now RunsOver _arena.now frames.old (record { instruction = fetched.Number number_ops.StoreFastN n; end = end }) }
-    ensures acts { under C.Constants _consts.now ActsKeeping (record { instruction = fetched.Number number_ops.StoreFastN n; end = end }) 0 _arena.now _arena.now frames.old frames.new result }
+    ensures acts { under C.Constants _consts.now ActsKeeping (record {
+      instruction = fetched.Number number_ops.StoreFastN n;
+      end = end;
+    }) 0 _arena.now _arena.now frames.old frames.new result }
 {
     acting_law();
     tops_law();
@@ -79,7 +85,8 @@ pub fn load_int<C: Constants>(
     end: u32,
 ) -> Result<(), Stop>
     requires runs { under C.Constants _consts.now RunsOver _arena.now frames.old (record { instruction = fetched.Int n; end = end }) }
-    ensures acts { under C.Constants _consts.now ActsKeeping (record { instruction = fetched.Int n; end = end }) 0 _arena.now _arena.now frames.old frames.new result }
+    ensures acts { under C.Constants _consts.now ActsKeeping
+        (record { instruction = fetched.Int n; end = end }) 0 _arena.now _arena.now frames.old frames.new result }
 {
     acting_law();
     load_small(frames, n, end);
@@ -94,8 +101,14 @@ pub fn load_text<C: Constants>(
     text: StrNo,
     end: u32,
 ) -> Result<(), Stop>
-    requires runs { under C.Constants _consts.now RunsOver _arena.now frames.old (record { instruction = fetched.Name name_ops.LoadConstString text; end = end }) }
-    ensures acts { under C.Constants _consts.now ActsKeeping (record { instruction = fetched.Name name_ops.LoadConstString text; end = end }) 0 _arena.now _arena.now frames.old frames.new result }
+    requires runs { under C.Constants _consts.now RunsOver _arena.now frames.old (record {
+      instruction = fetched.Name name_ops.LoadConstString text;
+      end = end;
+    }) }
+    ensures acts { under C.Constants _consts.now ActsKeeping (record {
+      instruction = fetched.Name name_ops.LoadConstString text;
+      end = end;
+    }) 0 _arena.now _arena.now frames.old frames.new result }
 {
     acting_law();
     load_str(frames, text, end);
@@ -111,7 +124,8 @@ pub fn load_object<C: Constants>(
     end: u32,
 ) -> Result<(), Stop>
     requires runs { under C.Constants _consts.now RunsOver _arena.now frames.old (record { instruction = fetched.Object v; end = end }) }
-    ensures acts { under C.Constants _consts.now ActsKeeping (record { instruction = fetched.Object v; end = end }) 0 _arena.now _arena.now frames.old frames.new result }
+    ensures acts { under C.Constants _consts.now ActsKeeping
+        (record { instruction = fetched.Object v; end = end }) 0 _arena.now _arena.now frames.old frames.new result }
 {
     acting_law();
     load_constant(frames, v, end);
@@ -127,7 +141,10 @@ pub fn jump<C: Constants>(
     end: u32,
 ) -> Result<(), Stop>
     requires runs { under C.Constants _consts.now RunsOver _arena.now frames.old (record { instruction = fetched.Jump jump_ops.Jump target; end = end }) }
-    ensures acts { under C.Constants _consts.now ActsKeeping (record { instruction = fetched.Jump jump_ops.Jump target; end = end }) 0 _arena.now _arena.now frames.old frames.new result }
+    ensures acts { under C.Constants _consts.now ActsKeeping (record {
+      instruction = fetched.Jump jump_ops.Jump target;
+      end = end;
+    }) 0 _arena.now _arena.now frames.old frames.new result }
 {
     acting_law();
     jump_on(frames, target, end);
@@ -142,8 +159,14 @@ pub(crate) fn setup_except<C: Constants>(
     handler: u32,
     end: u32,
 ) -> Result<(), Stop>
-    requires runs { under C.Constants _consts.now RunsOver _arena.now frames.old (record { instruction = fetched.Jump jump_ops.SetupExcept handler; end = end }) }
-    ensures acts { under C.Constants _consts.now ActsKeeping (record { instruction = fetched.Jump jump_ops.SetupExcept handler; end = end }) 0 _arena.now _arena.now frames.old frames.new result }
+    requires runs { under C.Constants _consts.now RunsOver _arena.now frames.old (record {
+      instruction = fetched.Jump jump_ops.SetupExcept handler;
+      end = end;
+    }) }
+    ensures acts { under C.Constants _consts.now ActsKeeping (record {
+      instruction = fetched.Jump jump_ops.SetupExcept handler;
+      end = end;
+    }) 0 _arena.now _arena.now frames.old frames.new result }
 {
     acting_law();
     begin_except(frames, handler, end);
@@ -158,8 +181,14 @@ pub(crate) fn setup_finally<C: Constants>(
     handler: u32,
     end: u32,
 ) -> Result<(), Stop>
-    requires runs { under C.Constants _consts.now RunsOver _arena.now frames.old (record { instruction = fetched.Jump jump_ops.SetupFinally handler; end = end }) }
-    ensures acts { under C.Constants _consts.now ActsKeeping (record { instruction = fetched.Jump jump_ops.SetupFinally handler; end = end }) 0 _arena.now _arena.now frames.old frames.new result }
+    requires runs { under C.Constants _consts.now RunsOver _arena.now frames.old (record {
+      instruction = fetched.Jump jump_ops.SetupFinally handler;
+      end = end;
+    }) }
+    ensures acts { under C.Constants _consts.now ActsKeeping (record {
+      instruction = fetched.Jump jump_ops.SetupFinally handler;
+      end = end;
+    }) 0 _arena.now _arena.now frames.old frames.new result }
 {
     acting_law();
     begin_finally(frames, handler, end);
@@ -174,8 +203,14 @@ pub(crate) fn pop_except_jump<C: Constants>(
     target: u32,
     end: u32,
 ) -> Result<(), Stop>
-    requires runs { under C.Constants _consts.now RunsOver _arena.now frames.old (record { instruction = fetched.Jump jump_ops.PopExceptJump target; end = end }) }
-    ensures acts { under C.Constants _consts.now ActsKeeping (record { instruction = fetched.Jump jump_ops.PopExceptJump target; end = end }) 0 _arena.now _arena.now frames.old frames.new result }
+    requires runs { under C.Constants _consts.now RunsOver _arena.now frames.old (record {
+      instruction = fetched.Jump jump_ops.PopExceptJump target;
+      end = end;
+    }) }
+    ensures acts { under C.Constants _consts.now ActsKeeping (record {
+      instruction = fetched.Jump jump_ops.PopExceptJump target;
+      end = end;
+    }) 0 _arena.now _arena.now frames.old frames.new result }
 {
     acting_law();
     end_except(frames, target, end);
@@ -192,7 +227,10 @@ pub fn unwind_jump<C: Constants>(
     end: u32,
 ) -> Result<(), Stop>
     requires runs { under C.Constants _consts.now RunsOver _arena.now frames.old (record { instruction = fetched.Unwind target byte; end = end }) }
-    ensures acts { under C.Constants _consts.now ActsKeeping (record { instruction = fetched.Unwind target byte; end = end }) 0 _arena.now _arena.now frames.old frames.new result }
+    ensures acts { under C.Constants _consts.now ActsKeeping (record {
+      instruction = fetched.Unwind target byte;
+      end = end;
+    }) 0 _arena.now _arena.now frames.old frames.new result }
 {
     acting_law();
     jump_out(frames, target, byte, end);

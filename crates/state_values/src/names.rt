@@ -21,7 +21,10 @@ pub(crate) fn load_name<C: Constants>(
     end: u32,
 ) -> Result<(), Stop>
     requires runs { under C.Constants consts.now RunsOver arena.now frames.old (record { instruction = fetched.Name name_ops.LoadName name; end = end }) }
-    ensures acts { under C.Constants consts.now ActsKeeping (record { instruction = fetched.Name name_ops.LoadName name; end = end }) 0 arena.now arena.now frames.old frames.new result }
+    ensures acts { under C.Constants consts.now ActsKeeping (record {
+      instruction = fetched.Name name_ops.LoadName name;
+      end = end;
+    }) 0 arena.now arena.now frames.old frames.new result }
 {
     acting_law();
     frame_values::load_name(frames, arena, consts, name, end)
@@ -36,7 +39,10 @@ pub(crate) fn load_global<C: Constants>(
     end: u32,
 ) -> Result<(), Stop>
     requires runs { under C.Constants consts.now RunsOver arena.now frames.old (record { instruction = fetched.Name name_ops.LoadGlobal name; end = end }) }
-    ensures acts { under C.Constants consts.now ActsKeeping (record { instruction = fetched.Name name_ops.LoadGlobal name; end = end }) 0 arena.now arena.now frames.old frames.new result }
+    ensures acts { under C.Constants consts.now ActsKeeping (record {
+      instruction = fetched.Name name_ops.LoadGlobal name;
+      end = end;
+    }) 0 arena.now arena.now frames.old frames.new result }
 {
     acting_law();
     frame_values::load_name(frames, arena, consts, name, end)
@@ -51,7 +57,10 @@ pub(crate) fn store_name<C: Constants>(
     end: u32,
 ) -> Result<(), Stop>
     requires runs { under C.Constants consts.now RunsOver arena.old frames.old (record { instruction = fetched.Name name_ops.StoreName name; end = end }) }
-    ensures acts { under C.Constants consts.now ActsKeeping (record { instruction = fetched.Name name_ops.StoreName name; end = end }) 0 arena.old arena.new frames.old frames.new result }
+    ensures acts { under C.Constants consts.now ActsKeeping (record {
+      instruction = fetched.Name name_ops.StoreName name;
+      end = end;
+    }) 0 arena.old arena.new frames.old frames.new result }
 {
     acting_law();
     tops_law();
@@ -67,7 +76,10 @@ pub(crate) fn store_global<C: Constants>(
     end: u32,
 ) -> Result<(), Stop>
     requires runs { under C.Constants consts.now RunsOver arena.old frames.old (record { instruction = fetched.Name name_ops.StoreGlobal name; end = end }) }
-    ensures acts { under C.Constants consts.now ActsKeeping (record { instruction = fetched.Name name_ops.StoreGlobal name; end = end }) 0 arena.old arena.new frames.old frames.new result }
+    ensures acts { under C.Constants consts.now ActsKeeping (record {
+      instruction = fetched.Name name_ops.StoreGlobal name;
+      end = end;
+    }) 0 arena.old arena.new frames.old frames.new result }
 {
     acting_law();
     tops_law();
@@ -83,7 +95,10 @@ pub(crate) fn delete_name<C: Constants>(
     end: u32,
 ) -> Result<(), Stop>
     requires runs { under C.Constants consts.now RunsOver arena.old frames.old (record { instruction = fetched.Name name_ops.DeleteName name; end = end }) }
-    ensures acts { under C.Constants consts.now ActsKeeping (record { instruction = fetched.Name name_ops.DeleteName name; end = end }) 0 arena.old arena.new frames.old frames.new result }
+    ensures acts { under C.Constants consts.now ActsKeeping (record {
+      instruction = fetched.Name name_ops.DeleteName name;
+      end = end;
+    }) 0 arena.old arena.new frames.old frames.new result }
 {
     acting_law();
     frame_values::delete_name(frames, arena, consts, name, end)
@@ -98,7 +113,10 @@ pub(crate) fn delete_global<C: Constants>(
     end: u32,
 ) -> Result<(), Stop>
     requires runs { under C.Constants consts.now RunsOver arena.old frames.old (record { instruction = fetched.Name name_ops.DeleteGlobal name; end = end }) }
-    ensures acts { under C.Constants consts.now ActsKeeping (record { instruction = fetched.Name name_ops.DeleteGlobal name; end = end }) 0 arena.old arena.new frames.old frames.new result }
+    ensures acts { under C.Constants consts.now ActsKeeping (record {
+      instruction = fetched.Name name_ops.DeleteGlobal name;
+      end = end;
+    }) 0 arena.old arena.new frames.old frames.new result }
 {
     acting_law();
     frame_values::delete_name(frames, arena, consts, name, end)

@@ -70,7 +70,8 @@ pub fn number_on<C: Constants>(
     requires operation { IsNumberOperation op }
     requires places { frames.old.slot_room ≤ length items.old }
     requires runs { under C.Constants consts.now RunsOver arena.old frames.old (record { instruction = fetched.Number op n; end = end }) }
-    ensures acts { under C.Constants consts.now ActsKeeping (record { instruction = fetched.Number op n; end = end }) 0 arena.old arena.new frames.old frames.new result }
+    ensures acts { under C.Constants consts.now ActsKeeping
+        (record { instruction = fetched.Number op n; end = end }) 0 arena.old arena.new frames.old frames.new result }
 {
     tops_law();
     match op {
@@ -105,7 +106,8 @@ pub fn name_on<C: Constants>(
 ) -> Result<(), Stop>
     requires operation { IsNameOperation op }
     requires runs { under C.Constants consts.now RunsOver arena.old frames.old (record { instruction = fetched.Name op name; end = end }) }
-    ensures acts { under C.Constants consts.now ActsKeeping (record { instruction = fetched.Name op name; end = end }) 0 arena.old arena.new frames.old frames.new result }
+    ensures acts { under C.Constants consts.now ActsKeeping
+        (record { instruction = fetched.Name op name; end = end }) 0 arena.old arena.new frames.old frames.new result }
 {
     match op {
         NameOp::LoadConstString => load_text(frames, arena, consts, name, end),
@@ -134,7 +136,8 @@ pub fn attribute_on<C: Constants>(
 ) -> Result<(), Stop>
     requires operation { IsAttributeOperation op }
     requires runs { under C.Constants consts.now RunsOver arena.old frames.old (record { instruction = fetched.Name op name; end = end }) }
-    ensures acts { under C.Constants consts.now ActsKeeping (record { instruction = fetched.Name op name; end = end }) 0 arena.old arena.new frames.old frames.new result }
+    ensures acts { under C.Constants consts.now ActsKeeping
+        (record { instruction = fetched.Name op name; end = end }) 0 arena.old arena.new frames.old frames.new result }
 {
     match op {
         NameOp::LoadAttr => load_attr(frames, arena, consts, name, end),
@@ -162,7 +165,8 @@ pub fn jump_to<C: Constants>(
     end: u32,
 ) -> Result<(), Stop>
     requires runs { under C.Constants consts.now RunsOver arena.old frames.old (record { instruction = fetched.Jump op target; end = end }) }
-    ensures acts { under C.Constants consts.now ActsKeeping (record { instruction = fetched.Jump op target; end = end }) 0 arena.old arena.new frames.old frames.new result }
+    ensures acts { under C.Constants consts.now ActsKeeping
+        (record { instruction = fetched.Jump op target; end = end }) 0 arena.old arena.new frames.old frames.new result }
 {
     match op {
         JumpOp::Jump => jump(frames, arena, consts, target, end),

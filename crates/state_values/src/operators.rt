@@ -22,7 +22,8 @@ pub fn unary_op<C: Constants>(
     end: u32,
 ) -> Result<(), Stop>
     requires runs { under C.Constants consts.now RunsOver arena.now frames.old (record { instruction = fetched.Unary number; end = end }) }
-    ensures acts { under C.Constants consts.now ActsKeeping (record { instruction = fetched.Unary number; end = end }) 0 arena.now arena.now frames.old frames.new result }
+    ensures acts { under C.Constants consts.now ActsKeeping
+        (record { instruction = fetched.Unary number; end = end }) 0 arena.now arena.now frames.old frames.new result }
 {
     acting_law();
     tops_law();
@@ -38,7 +39,8 @@ pub fn binary_op<C: Constants>(
     end: u32,
 ) -> Result<(), Stop>
     requires runs { under C.Constants consts.now RunsOver arena.old frames.old (record { instruction = fetched.Binary number; end = end }) }
-    ensures acts { under C.Constants consts.now ActsKeeping (record { instruction = fetched.Binary number; end = end }) (under C.Constants consts.now visits_binary arena.old frames.old.calls number) arena.old arena.new frames.old frames.new result }
+    ensures acts { under C.Constants consts.now ActsKeeping (record { instruction = fetched.Binary number; end = end })
+        (under C.Constants consts.now visits_binary arena.old frames.old.calls number) arena.old arena.new frames.old frames.new result }
 {
     acting_law();
     tops_law();

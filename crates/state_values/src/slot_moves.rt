@@ -20,7 +20,8 @@ use vm_states::{PlainOp, keeps_law, tops_law};
 /// The operation, by what it needs.
 fn act(frames: &mut Frames, op: PlainOp, end: u32)
     requires { Needs op frames.old }
-    ensures steps { (tables : Tables) (w : PlainWorld) → IsNext tables end frames.old.calls → Steps tables w (Plain (instrs.Plain (plain_op op))) frames.old.calls frames.new.calls }
+    ensures steps { (tables : Tables) (w : PlainWorld) → IsNext tables end frames.old.calls
+        → Steps tables w (Plain (instrs.Plain (plain_op op))) frames.old.calls frames.new.calls }
     ensures moved { frames.new ≡ on_running (λ c. gone end (moved_slots op c.slots) c) frames.old }
 {
     match op {

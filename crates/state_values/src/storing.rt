@@ -18,7 +18,11 @@ pub fn store_local(frames: &mut Frames, op: NumberOp, n: u32, end: u32)
     requires stores { StoresLocal op }
     requires runs { Runs frames.old (record { instruction = fetched.Number op n; end = end }) }
     ensures goes { GoesBehind (record { instruction = fetched.Number op n; end = end }) frames.old frames.new }
-    ensures moved { (v : Item) → IsTop (slots.Value v) frames.old.calls → frames.new ≡ on_running (λ c. record c { at = end; slots = drop 1 c.slots; locals = slice_set c.locals n (Some v) }) frames.old }
+    ensures moved { (v : Item) → IsTop (slots.Value v) frames.old.calls → frames.new ≡ on_running (λ c. record c {
+      at = end;
+      slots = drop 1 c.slots;
+      locals = slice_set c.locals n (Some v);
+    }) frames.old }
 {
     keeps_law();
     tops_law();

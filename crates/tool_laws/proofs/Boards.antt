@@ -52,7 +52,7 @@ no_plan files name NoMemory s p = absurd s
 no_plan files name Absent s p = inr (inr (record { is = refl; at = p }))
 
 module _ (laws : PlanLaws) (files : FileOf) (name : List ℕ) where
-  one_plan : (a b : Plan) → HoldsPlan (Some files) name a → HoldsPlan (Some files) name b → a ≡ b
+  pub one_plan : (a b : Plan) → HoldsPlan (Some files) name a → HoldsPlan (Some files) name b → a ≡ b
   one_plan a b h k =
       let bytes = same_content (files name) h.bytes k.bytes h.holds k.holds in
       laws.one (lines_of k.bytes) a b (subst (λ (z : List ℕ). IsPlan (lines_of z) a) bytes h.is_plan) k.is_plan

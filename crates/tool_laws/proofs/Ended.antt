@@ -13,17 +13,17 @@ use Rattle.bc_scheme.specs.Correct.{HasEnded}
 use Rattle.meant_files.specs.Sources.{IsProgramOfSources}
 use Rattle.command_files.specs.Outside.{Outside}
 use Rattle.mpy_endings.specs.Ending.{IsRunStatus}
-use Rattle.stress_command.specs.run_commands.Base.{base_of}
-use Rattle.stress_command.specs.run_commands.declared.ready.Ready.{Ready}
-use Rattle.stress_command.specs.run_commands.Ready.{GoLibrary, RunLibrary}
-use Rattle.stress_command.specs.run_commands.Run.{EndsRun}
+use Rattle.run_commands.specs.Base.{base_of}
+use Rattle.run_commands.specs.declared.ready.Ready.{Ready}
+use Rattle.run_commands.specs.Ready.{GoLibrary, RunLibrary}
+use Rattle.run_commands.specs.Run.{EndsRun}
 use Rattle.meant_commands.specs.GoMeant.{GoMeans, MeansSources}
 use Rattle.meant_commands.specs.Meant.{DoesAsMeant, HoldsProgram, RunMeans, end_status}
 use Rattle.tool_laws.specs.Runs.{AnswersOnce, OnFiles, SettledRun}
 use Rattle.tool_laws.proofs.Settling.{run_ends}
 
 -- it ends so, where its meaning has ended in t turns
-ends_so : (program : Program) (room : Room) (steps : ℕ) (states : List PortState) (old new : Outside) (ports_new : List PortView) (status t : ℕ)
+pub ends_so : (program : Program) (room : Room) (steps : ℕ) (states : List PortState) (old new : Outside) (ports_new : List PortView) (status t : ℕ)
     → DoesAsMeant program room steps states old new ports_new status → IsRunStatus status → HasEnded (meaning program room.cells room.bytes states t) → 16 * t + 16 ≤ steps
     → status ≡ end_status (meaning program room.cells room.bytes states t).end
 ends_so program room steps states old new ports_new status t does is ended within =

@@ -28,7 +28,7 @@ use Rattle.frozen_files.specs.Sources.{HoldsSource, HoldsSources, IsFirstRefused
 use Rattle.mpy_endings.specs.declared.ending.Ending.{Ending}
 use Rattle.mpy_endings.specs.declared.ending.Ending.TheVariants.{Done, Unaccepted, Unread, Unverified, Unmerged, Unopened, Unfrozen, Unboarded, Different, Stopped, ReadFault, WriteFault, Unwritten, NoMemory, Absent}
 use Rattle.mpy_endings.specs.Ending.{IsSettled}
-use Rattle.meant_commands.specs.image_commands.Freeze.{Freezes}
+use Rattle.meant_commands.specs.file_commands.Freeze.{Freezes}
 use Rattle.mpy_merge.proofs.Once.{one_beside}
 use Rattle.tool_laws.specs.Laws.{FileLaws, ManifestLaws, SourceLaws}
 use Rattle.tool_laws.specs.Once.{EndOnce, IsDone}

@@ -21,4 +21,8 @@ pub mod Members
 pub mod Loading
 pub mod FilePrograms
 pub mod FilesMean
+pub mod Printed
+pub mod ManifestNames
+pub mod SourcesLoad
+pub mod SourceLimits
 mod Alone

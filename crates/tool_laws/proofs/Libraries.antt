@@ -28,11 +28,11 @@ use Rattle.command_files.specs.Folder.{IsNotRead}
 use Rattle.command_files.specs.Opened.{HoldsModule}
 use Rattle.command_files.specs.Source.{HoldsFaulty}
 use Rattle.command_files.proofs.Long.{not_read as refuses_unread}
-use Rattle.stress_command.specs.run_commands.declared.ready.Ready.{Ready}
-use Rattle.stress_command.specs.run_commands.Base.{base_of}
-use Rattle.stress_command.specs.run_commands.Go.{RefusesSources, SourceLoadsOf}
-use Rattle.stress_command.specs.run_commands.Ready.{FirstOf, GoLibrary, ImageStart, IsFirst, RunLibrary, begins_image, not_read, of_file, of_image}
-use Rattle.stress_command.specs.run_commands.Run.{FileLibrary, HoldsMain, LoadsOf, RefusesLibrary}
+use Rattle.run_commands.specs.declared.ready.Ready.{Ready}
+use Rattle.run_commands.specs.Base.{base_of}
+use Rattle.run_commands.specs.Go.{RefusesSources, SourceLoadsOf}
+use Rattle.run_commands.specs.Ready.{FirstOf, GoLibrary, ImageStart, IsFirst, RunLibrary, begins_image, not_read, of_file, of_image}
+use Rattle.run_commands.specs.Run.{FileLibrary, HoldsMain, LoadsOf, RefusesLibrary}
 use Rattle.tool_laws.specs.Laws.{FileLaws, ImageLaws, LoadLaws, SourceLaws}
 use Rattle.tool_laws.specs.Runs.{AnswersOnce, IsSettledAnswer}
 use Rattle.tool_laws.proofs.ImageFiles.{never_faulty, never_long}
@@ -43,7 +43,7 @@ abbrev first_of : Shelf → Ready
 first_of shelf = record { library = shelf; place = 0; main = main_name }
 
 -- what an end of loading comes to
-abbrev answer_by : Loading → Result Ready Ending
+abbrev pub answer_by : Loading → Result Ready Ending
 answer_by (Loaded shelf) = Ok (first_of shelf)
 answer_by (loads.Past limit) = Err (Stopped (Past limit))
 answer_by (loads.Unaccepted source) = Err (Stopped (LibraryUnaccepted source))
@@ -67,7 +67,7 @@ module _ (own : SourceLaws) (load : LoadLaws) (level : ℕ) (files : FileOf) (na
       load.from_sources level files (base_of name) k.main k.size some other (subst (λ (n : ℕ). LoadsFromSources level files (base_of name) k.main n some) one.1 main) k.loads
 
   -- loading ends so, the source isn't accepted, or it is absent
-  abbrev SourceSo : Result Ready Ending → Type 0
+  abbrev pub SourceSo : Result Ready Ending → Type 0
   SourceSo answer =
       ((end : Loading) × SourceLoadsOf level (Some files) name end × (answer ≡ answer_by end))
       ⊎ (((fault : SourceFault) × HoldsFaulty level (Some files) name (stored name) fault × (answer ≡ Err (Unaccepted fault)))
@@ -96,7 +96,7 @@ module _ (own : SourceLaws) (load : LoadLaws) (level : ℕ) (files : FileOf) (na
   refused_source NoMemory s p = absurd s
   refused_source Absent s p = inr (inr (p, refl))
 
-  source_so : (answer : Result Ready Ending) → IsSettledAnswer answer → GoLibrary level (Some files) name answer → SourceSo answer
+  pub source_so : (answer : Result Ready Ending) → IsSettledAnswer answer → GoLibrary level (Some files) name answer → SourceSo answer
   source_so (Ok ready) s p = inl (Loaded ready.library, p.0, first_is ready p.1)
   source_so (Err ending) s p = refused_source ending s p
 
@@ -137,7 +137,7 @@ module _ (laws : FileLaws) (load : LoadLaws) (files : FileOf) (name : List ℕ) 
       load.from_files files (base_of name) k.main k.size some other (subst (λ (n : ℕ). LoadsFrom files (base_of name) k.main n some) size main) k.loads
 
   -- loading ends so, or the file is refused
-  abbrev FileSo : Result Ready Ending → Type 0
+  abbrev pub FileSo : Result Ready Ending → Type 0
   FileSo answer =
       ((end : Loading) × LoadsOf (Some files) name end × (answer ≡ answer_by end))
       ⊎ ((ending : Ending) × Refused files name ending × (answer ≡ Err ending))
@@ -165,7 +165,7 @@ module _ (laws : FileLaws) (load : LoadLaws) (files : FileOf) (name : List ℕ) 
   refused_file NoMemory s p = absurd s
   refused_file Absent s p = inr (Absent, refused_of files name Absent s p, refl)
 
-  file_so : (answer : Result Ready Ending) → IsSettledAnswer answer → FirstOf (FileLibrary (Some files) name) answer → FileSo answer
+  pub file_so : (answer : Result Ready Ending) → IsSettledAnswer answer → FirstOf (FileLibrary (Some files) name) answer → FileSo answer
   file_so (Ok ready) s p = inl (Loaded ready.library, p.0, first_is ready p.1)
   file_so (Err ending) s p = refused_file ending s p
 

@@ -24,13 +24,13 @@ use Rattle.tool_laws.proofs.Members.{apart, has, here, is_member, main_alone, mo
 -- =====
 
 module _ {A : Type 0} (P : A → Type 0) where
-  each : (xs : List A) → ((x : A) → Contains xs x → P x) → AllByRecursion P xs
+  pub each : (xs : List A) → ((x : A) → Contains xs x → P x) → AllByRecursion P xs
   each xs h = recursion_from_All P xs (λ k d lt. h _ (All-contains_itself xs k d lt))
 
   at_one : (xs : List A) (x : A) → AllByRecursion P xs → Contains xs x → P x
   at_one xs x h c = All-contains P xs x (All-from_recursion P xs h) c
 
-  both : (xs ys : List A) → AllByRecursion P xs → AllByRecursion P ys → AllByRecursion P (xs ++ ys)
+  pub both : (xs ys : List A) → AllByRecursion P xs → AllByRecursion P ys → AllByRecursion P (xs ++ ys)
   both [] ys h k = k
   both (x ∷ xs) ys h k = (h.0, both xs ys h.1 k)
 

@@ -23,7 +23,7 @@ eq_self a = (bytes_eq-Decides a a).1 refl
 pub apart : (a b : Name) → bytes_eq a b ≡ false → a ≡ b → ⊥
 apart a b e same = let yes : bytes_eq a b ≡ true = (bytes_eq-Decides a b).1 same in cc
 
-or_true : (b : Bool) → (b || true) ≡ true
+pub or_true : (b : Bool) → (b || true) ≡ true
 or_true true = refl
 or_true false = refl
 

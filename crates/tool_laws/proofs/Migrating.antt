@@ -15,7 +15,7 @@ use Rattle.manifest_files.specs.declared.frozen_fault.FrozenFault.TheVariants as
 use Rattle.mpy_endings.specs.declared.ending.Ending.{Ending}
 use Rattle.mpy_endings.specs.declared.ending.Ending.TheVariants.{Done, Unaccepted, Unread, Unverified, Unmerged, Unopened, Unfrozen, Unboarded, Different, Stopped, ReadFault, WriteFault, Unwritten, NoMemory, Absent}
 use Rattle.mpy_endings.specs.Ending.{IsSettled}
-use Rattle.meant_commands.specs.image_commands.Migrate.{HoldsMigrated, HoldsTooBig, Migrates}
+use Rattle.meant_commands.specs.file_commands.Migrate.{HoldsMigrated, HoldsTooBig, Migrates}
 use Rattle.tool_laws.specs.Laws.{ImageLaws}
 use Rattle.tool_laws.specs.Once.{EndOnce, IsDone}
 use Rattle.tool_laws.proofs.Frozen.{never_big}

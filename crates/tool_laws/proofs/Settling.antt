@@ -5,7 +5,7 @@ use Rattle.mpy_base.specs.declared.room.Room.{Room}
 use Rattle.mpy_base.specs.World.{PortState}
 use Rattle.mpy_io.specs.Files.{FileOf}
 use Rattle.mpy_io.specs.Ports.{PortView}
-use Rattle.stress_command.specs.run_commands.library_runs.Runs.{Sight}
+use Rattle.run_commands.specs.library_runs.Runs.{Sight}
 use Rattle.manifest_files.specs.declared.frozen_fault.SourcesFault.TheVariants as sources
 use Rattle.manifest_files.specs.declared.frozen_fault.FrozenFault.TheVariants as frozen
 use Rattle.mpy_endings.specs.declared.ending.Ending.{Ending}
@@ -14,8 +14,8 @@ use Rattle.mpy_endings.specs.declared.ending.BoardFault.TheVariants as boards
 use Rattle.mpy_endings.specs.declared.ending.Stop.TheVariants.{Past, LibraryFault, LibraryUnaccepted, Raised, Memory, Steps, Unsaved}
 use Rattle.mpy_endings.specs.Ending.{IsSettled, IsRunStatus, status_of}
 use Rattle.command_files.specs.Outside.{Ends, EndsAt, Outside, Writes, WritesOf}
-use Rattle.stress_command.specs.run_commands.declared.ready.Ready.{Ready}
-use Rattle.stress_command.specs.run_commands.Run.{EndsRun, Runs, sight_in}
+use Rattle.run_commands.specs.declared.ready.Ready.{Ready}
+use Rattle.run_commands.specs.Run.{EndsRun, Runs, sight_in}
 use Rattle.meant_commands.specs.Alike.{Tells}
 use Rattle.tool_laws.specs.Once.{EndOnce, IsDone, IsSettledStatus, OneStatus, Settled, Succeeds}
 use Rattle.tool_laws.specs.Runs.{AnswersOnce, OnFiles, RunLaws, SettledRun}
@@ -133,7 +133,7 @@ module _ (Comes : Option FileOf → (name : List ℕ) → Result Ready Ending �
   abbrev Call : ℕ → Type 0
   Call status = SettledRun Going_so printed ports states status
 
-  went_so : (status : ℕ) (x : Call status) → Runs (Comes (Some files) name) room steps (seen printed ports) (sight_in x.new x.ports_new) x.went.1.said x.went.1.ending
+  pub went_so : (status : ℕ) (x : Call status) → Runs (Comes (Some files) name) room steps (seen printed ports) (sight_in x.new x.ports_new) x.went.1.said x.went.1.ending
   went_so status x =
       subst (λ (o : Option (List ℕ)). Runs (Comes (Some files) name) room steps (record { out = o; ports = ports }) (sight_in x.new x.ports_new) x.went.1.said x.went.1.ending) x.out
       (subst (λ (f : Option FileOf). Runs (Comes f name) room steps (sight_in x.old ports) (sight_in x.new x.ports_new) x.went.1.said x.went.1.ending) x.went.0 x.went.1.went)
@@ -141,7 +141,7 @@ module _ (Comes : Option FileOf → (name : List ℕ) → Result Ready Ending �
   tells_so : (status : ℕ) → Call status → Tells (seen printed ports)
   tells_so status x = record { printed = printed; out = refl; ports = states; told = x.told }
 
-  settled_so : (status : ℕ) (x : Call status) → IsSettled x.went.1.ending
+  pub settled_so : (status : ℕ) (x : Call status) → IsSettled x.went.1.ending
   settled_so status x = settled_by x.went.1.ending status x.went.1.status_is x.settled
 
   pub run_once : RunLaws → AnswersOnce (Comes (Some files) name) → (one other : ℕ) → Call one → Call other → one ≡ other

@@ -19,8 +19,8 @@ ghost use Rattle.board_command.specs.board_files.board_tasks.Opened.{first_missi
 ghost use Rattle.mpy_endings.specs.declared.ending.Ending.{Ending};
 ghost use Rattle.mpy_endings.specs.Ending.{IsSettled};
 ghost use Rattle.command_files.specs.Images.{HoldsImage, RefusesImage};
-ghost use Rattle.meant_commands.specs.image_commands.Freeze.{Freezes};
-ghost use Rattle.meant_commands.specs.image_commands.Migrate.{HoldsMigrated, Migrates};
+ghost use Rattle.meant_commands.specs.file_commands.Freeze.{Freezes};
+ghost use Rattle.meant_commands.specs.file_commands.Migrate.{HoldsMigrated, Migrates};
 ghost use Rattle.board_command.specs.Boards.{Boards};
 ghost use Rattle.board_command.specs.Plans.{HoldsPlan};
 ghost use Rattle.tool_laws.specs.Once.{EndOnce, IsDone};

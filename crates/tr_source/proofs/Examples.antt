@@ -3,22 +3,21 @@ use Rattle.std.proofs.Common.{◌≡◌, List, [], ◌∷◌, codes, map, refl, 
 use Rattle.bc_resolved.specs.mpy_base.Val.{Int, Str}
 use Rattle.emit_measures.specs.bc_scheme.bc_ops.declared.instr.Op.TheVariants as ops
 use Rattle.emit_measures.specs.bc_scheme.bc_ops.declared.instr.Instr.TheVariants as instrs
-use Rattle.emit_measures.specs.bc_scheme.bc_ops.declared.listing.Target.TheVariants.{Position}
-use Rattle.emit_measures.specs.bc_scheme.mpy_tree.Resolved.{Resolved, plain, named, object, jump, unwind, Body}
+use Rattle.emit_measures.specs.bc_scheme.bc_machine.Library.{Item, Plain, Names, Loads, Jumps, Unwinds, Line}
 use Rattle.emit_measures.specs.bc_scheme.py_meaning.Tree.{Constant, Named, DictOf, Call, NoExpr, More, NoPair, Pair, NoKey, Key, ToName, Only, Assign, Assert, Return, Def, Block, End, Next}
+use Rattle.emit_measures.specs.Wide.{wide_length}
 use Rattle.tr_source.specs.Nested.{nested}
 use Rattle.tr_source.specs.Within.{most_arguments, most_pairs}
-use Rattle.tr_source.specs.Short.{wide_length}
 
-abbrev body_of : List Resolved → Body
-body_of items = record { name = codes "<module>"; args = []; defaults = 0; n_state = 6; n_exc = 1; lines = map (λ item. record { item = item; line = 1 }) items }
+abbrev lines_of : List Item → List Line
+lines_of items = map (λ item. record { item = item; line = 1 }) items
 
 -- while x:
 --   f(1, -17)
-loop : wide_length (body_of (
-    named ops.LoadName (codes "x") ∷ jump ops.PopJumpIfFalse (Position 9) ∷ named ops.LoadName (codes "f") ∷ plain (instrs.Int (pos 1)) ∷ plain (instrs.Int (pos 17))
-    ∷ plain (instrs.Unary 1) ∷ plain (instrs.Num ops.CallFunction 2) ∷ plain (instrs.Plain ops.PopTop) ∷ jump ops.Jump (Position 0)
-    ∷ plain (instrs.Plain ops.LoadConstNone) ∷ plain (instrs.Plain ops.ReturnValue) ∷ []
+loop : wide_length (lines_of (
+    Names ops.LoadName (codes "x") ∷ Jumps ops.PopJumpIfFalse 9 ∷ Names ops.LoadName (codes "f") ∷ Plain (instrs.Int (pos 1)) ∷ Plain (instrs.Int (pos 17))
+    ∷ Plain (instrs.Unary 1) ∷ Plain (instrs.Num ops.CallFunction 2) ∷ Plain (instrs.Plain ops.PopTop) ∷ Jumps ops.Jump 0
+    ∷ Plain (instrs.Plain ops.LoadConstNone) ∷ Plain (instrs.Plain ops.ReturnValue) ∷ []
     )) ≡ 24
 loop = refl
 
@@ -27,16 +26,16 @@ loop = refl
 --     break
 --   finally:
 --     x = 'abcdefghijkl'
-leaving : wide_length (body_of (
-    named ops.LoadName (codes "a") ∷ plain (instrs.Plain ops.GetIterStack) ∷ jump ops.ForIter (Position 11) ∷ named ops.StoreName (codes "i")
-    ∷ jump ops.SetupFinally (Position 7) ∷ unwind (Position 11) 129 ∷ plain (instrs.Plain ops.LoadConstNone) ∷ object (Str (codes "abcdefghijkl"))
-    ∷ named ops.StoreName (codes "x") ∷ plain (instrs.Plain ops.EndFinally) ∷ jump ops.Jump (Position 2) ∷ plain (instrs.Plain ops.LoadConstNone)
-    ∷ plain (instrs.Plain ops.ReturnValue) ∷ []
+leaving : wide_length (lines_of (
+    Names ops.LoadName (codes "a") ∷ Plain (instrs.Plain ops.GetIterStack) ∷ Jumps ops.ForIter 11 ∷ Names ops.StoreName (codes "i")
+    ∷ Jumps ops.SetupFinally 7 ∷ Unwinds 11 129 ∷ Plain (instrs.Plain ops.LoadConstNone) ∷ Loads (Str (codes "abcdefghijkl"))
+    ∷ Names ops.StoreName (codes "x") ∷ Plain (instrs.Plain ops.EndFinally) ∷ Jumps ops.Jump 2 ∷ Plain (instrs.Plain ops.LoadConstNone)
+    ∷ Plain (instrs.Plain ops.ReturnValue) ∷ []
     )) ≡ 34
 leaving = refl
 
 -- x = 300, in a function
-local : wide_length (body_of (plain (instrs.Int (pos 300)) ∷ plain (instrs.Num ops.StoreFast 0) ∷ plain (instrs.Plain ops.LoadConstNone) ∷ plain (instrs.Plain ops.ReturnValue) ∷ [])) ≡ 9
+local : wide_length (lines_of (Plain (instrs.Int (pos 300)) ∷ Plain (instrs.Num ops.StoreFast 0) ∷ Plain (instrs.Plain ops.LoadConstNone) ∷ Plain (instrs.Plain ops.ReturnValue) ∷ [])) ≡ 9
 local = refl
 
 -- def f(a, b=1):

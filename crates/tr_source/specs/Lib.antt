@@ -8,13 +8,11 @@ pub use Rattle.py_meaning.specs as py_meaning
 pub use Rattle.py_meaning.specs.py_tree
 pub use Rattle.py_source.specs as py_source
 pub mod Accepted
-pub mod Compiled
 pub mod Greatest
 pub mod Limits
 pub mod Names
 pub mod Nested
 pub mod Numbered
-pub mod Short
 pub mod Spelled
 pub mod Texts
 pub mod Units

@@ -9,18 +9,15 @@ ghost use Rattle.emit_measures.specs.bc_scheme.py_meaning.Program.{Unit, source_
 ghost use Rattle.emit_measures.specs.bc_scheme.Link.{IsModuleOf};
 ghost use Rattle.emit_measures.specs.bc_scheme.Translation.{Translates};
 ghost use Rattle.bc_resolved.specs.bc_verify.Verified.{IsVerified};
-ghost use Rattle.emit_measures.specs.bc_scheme.bc_machine.Library.{module_of};
-ghost use Rattle.bc_resolved.specs.bc_progress.Plans.{Plan, IsVerifiedModule};
 ghost use Rattle.bc_resolved.specs.Verified.{IsVerifiedTree};
 ghost use Rattle.tr_source.specs.Limits.{SourceLimited};
 ghost use Rattle.tr_source.specs.Numbered.{SourceNumbered};
 ghost use Rattle.tr_source.specs.Within.{AllWithin};
 ghost use Rattle.tr_source.specs.Accepted.{source_of, IsAccepted};
 ghost use Rattle.tr_source.specs.Units.{IsAcceptedUnit};
-ghost use Rattle.tr_source.specs.Compiled.{IsCompiled};
 
 use crate::verified::{merge_law, unique_law, verified_law};
-use bc_resolved::{module_law, raw_law};
+use bc_resolved::raw_law;
 use py_meaning::{numbers_law, params_law};
 
 /// An accepted source keeps the limits under every name, and wherever its codes begin. Its functions have numbers of their own.
@@ -57,17 +54,11 @@ pub fn unit_law()
     merge_law();
 }
 
-/// What a file holds of a translation of an accepted source is verified, and so is the machine's module of what a source is
-/// compiled to.
+/// What a file holds of a translation of an accepted source is verified.
 pub fn compiled_law()
     ensures file { (file : Name) (level : ℕ) (tree : Module) (m : ResolvedModule) (held : raw.Module) → IsAccepted level tree
         → Translates (source_of file level tree) m → Resolves held m → IsVerified held }
-    ensures machine { (file : Name) (level : ℕ) (tree : Module) (m : ResolvedModule) → IsCompiled file level tree m
-        → (plans : ℕ → Plan) × IsVerifiedModule plans (module_of m) }
-    ensures one { (file : Name) (level : ℕ) (tree : Module) (m n : ResolvedModule) → IsCompiled file level tree m
-        → IsCompiled file level tree n → m ≡ n }
 {
     accepted_law();
     raw_law();
-    module_law();
 }

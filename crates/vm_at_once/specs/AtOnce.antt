@@ -11,7 +11,8 @@ use Rattle.state_values.specs.Keeping.{ActsKeeping}
 
 -- it acts over a heap that stays, without a stop and with these visits, of which there is one at most; or it is left, and the
 -- calls stay
-abbrev pub ActsAtOnce : (texts : StrNo → Option (List ℕ)) → (tuples : ConstNo → Option (List Value)) → Fetched → Heap Value ℕ → (old new : Calls) → (visits : Option ℕ) → Type 0
+abbrev pub ActsAtOnce : (texts : StrNo → Option (List ℕ)) → (tuples : ConstNo → Option (List Value)) → Fetched → Heap Value ℕ
+    → (old new : Calls) → (visits : Option ℕ) → Type 0
 ActsAtOnce texts tuples fetched heap old new (Some visits) = ActsKeeping texts tuples fetched visits heap heap old new (Ok tt) × (visits ≤ 1)
 ActsAtOnce texts tuples fetched heap old new None = new ≡ old
 

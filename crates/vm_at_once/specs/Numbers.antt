@@ -15,7 +15,8 @@ use Rattle.state_values.specs.bc_progress.bc_machine.Operations.{TwoValued, oper
 
 -- the operator with this number comes to this over two numbers, whatever the heap is
 abbrev pub ComesTo : (number : ℕ) → (left right : ℤ) → (PlainHeap → Outcome Val) → Type 0
-ComesTo number left right outcome = (operator : TwoValued) × (operator_at number ≡ Some operator) × ((heap : PlainHeap) → operator heap (Int left) (Int right) ≡ outcome heap)
+ComesTo number left right outcome = (operator : TwoValued) × (operator_at number ≡ Some operator)
+    × ((heap : PlainHeap) → operator heap (Int left) (Int right) ≡ outcome heap)
 
 -- it gives the value, with these visits
 abbrev pub Gives : (number : ℕ) → (left right : ℤ) → Val → (visits : ℕ) → Type 0

@@ -57,7 +57,9 @@ fn front_place(len: u32, number: i32) -> Option<u32>
 fn item_in<C: Constants>(arena: &Arena, _consts: &C, l: ListNo, number: i32) -> Option<Value>
     requires leads { Leads arena.now.objects (values.List l) }
     requires all_told { TellsAll C.Constants _consts.now arena.now }
-    ensures { let see = sight C.Constants _consts.now in IfSome result (λ v. IsOutcome see.texts see.tuples arena.now arena.now (Ok v) (get_item (see.heap arena.now) (see.value (values.List l)) (see.value (values.Int number)))) }
+    ensures { let see = sight C.Constants _consts.now
+        in IfSome result (λ v. IsOutcome see.texts see.tuples arena.now arena.now (Ok v)
+        (get_item (see.heap arena.now) (see.value (values.List l)) (see.value (values.Int number)))) }
 {
     match front_place(list_len(arena, l), number) {
         Some(at) => match list_at(arena, l, at) {
@@ -113,7 +115,9 @@ fn put_item<C: Constants>(arena: &mut Arena, _consts: &C, l: ListNo, at: u32, v:
     requires leads { Leads arena.old.objects v }
     requires told { Tells C.Constants _consts.now v }
     requires all_told { TellsAll C.Constants _consts.now arena.old }
-    ensures { let see = sight C.Constants _consts.now in (number : ℤ) → place_at (length (items_at arena.old l.cell)) number ≡ Some at → IsOutcome see.texts see.tuples arena.old arena.new (Ok values.None) (set_item (see.heap arena.old) (see.value (values.List l)) (Int number) (see.value v)) }
+    ensures { let see = sight C.Constants _consts.now in (number : ℤ) → place_at (length (items_at arena.old l.cell)) number ≡ Some at
+        → IsOutcome see.texts see.tuples arena.old arena.new (Ok values.None)
+        (set_item (see.heap arena.old) (see.value (values.List l)) (Int number) (see.value v)) }
 {
     let _set = list_set(arena, l, at, v);
 }
@@ -139,7 +143,9 @@ pub(crate) fn store_item<C: Constants>(
     end: u32,
 ) -> bool
     requires runs { under C.Constants consts.now RunsOver arena.old frames.old (fetched_plain plain_ops.StoreSubscr end) }
-    ensures done { result ≡ true → under C.Constants consts.now ActsKeeping (fetched_plain plain_ops.StoreSubscr end) 0 arena.old arena.new frames.old frames.new (Ok tt) }
+    ensures done { result ≡ true
+        → under C.Constants consts.now ActsKeeping (fetched_plain plain_ops.StoreSubscr end) 0 arena.old arena.new frames.old frames.new
+        (Ok tt) }
     ensures left { result ≡ false → (frames.new ≡ frames.old) × (arena.new ≡ arena.old) }
 {
     acting_law();

@@ -41,7 +41,9 @@ fn item_from<C: Constants>(arena: &Arena, consts: &C, over: Value, at: u32) -> O
     requires told { Tells C.Constants consts.now over }
     requires all_told { TellsAll C.Constants consts.now arena.now }
     ensures within { let see = sight C.Constants consts.now in IfSome result (λ next. at < length_in (see.heap arena.now) (see.value over)) }
-    ensures item { let see = sight C.Constants consts.now in IfSome result (λ next. IsOutcome see.texts see.tuples arena.now arena.now (Ok next.0) (item_in (see.heap arena.now) (see.value over) at)) }
+    ensures item { let see = sight C.Constants consts.now
+        in IfSome result (λ next. IsOutcome see.texts see.tuples arena.now arena.now (Ok next.0)
+        (item_in (see.heap arena.now) (see.value over) at)) }
     ensures place { IfSome result (λ next. next.1 ≡ suc at) }
 {
     if at < item_count(arena, consts, over) {
@@ -59,7 +61,9 @@ fn next_from<C: Constants>(arena: &Arena, consts: &C, over: Value, at: u32) -> O
     requires told { Tells C.Constants consts.now over }
     requires all_told { TellsAll C.Constants consts.now arena.now }
     ensures within { let see = sight C.Constants consts.now in IfSome result (λ next. at < length_in (see.heap arena.now) (see.value over)) }
-    ensures item { let see = sight C.Constants consts.now in IfSome result (λ next. IsOutcome see.texts see.tuples arena.now arena.now (Ok next.0) (item_in (see.heap arena.now) (see.value over) at)) }
+    ensures item { let see = sight C.Constants consts.now
+        in IfSome result (λ next. IsOutcome see.texts see.tuples arena.now arena.now (Ok next.0)
+        (item_in (see.heap arena.now) (see.value over) at)) }
     ensures place { IfSome result (λ next. next.1 ≡ suc at) }
 {
     match over {
@@ -113,7 +117,10 @@ pub(crate) fn iterate<C: Constants>(
     end: u32,
 ) -> Option<u64>
     requires runs { under C.Constants consts.now RunsOver arena.now frames.old (record { instruction = fetched.Jump jump_ops.ForIter target; end = end }) }
-    ensures { under C.Constants consts.now ActsAtOnce (record { instruction = fetched.Jump jump_ops.ForIter target; end = end }) arena.now frames.old frames.new result }
+    ensures { under C.Constants consts.now ActsAtOnce (record {
+      instruction = fetched.Jump jump_ops.ForIter target;
+      end = end;
+    }) arena.now frames.old frames.new result }
 {
     acting_law();
     tops_law();

@@ -56,7 +56,10 @@ fn load_short<C: Constants>(
     end: u32,
 ) -> Option<u64>
     requires runs { under C.Constants consts.now RunsOver arena.now frames.old (record { instruction = fetched.Number number_ops.LoadFast n; end = end }) }
-    ensures { under C.Constants consts.now ActsAtOnce (record { instruction = fetched.Number number_ops.LoadFast n; end = end }) arena.now frames.old frames.new result }
+    ensures { under C.Constants consts.now ActsAtOnce (record {
+      instruction = fetched.Number number_ops.LoadFast n;
+      end = end;
+    }) arena.now frames.old frames.new result }
 {
     acting_law();
     done(load(frames, arena, consts, n, end))
@@ -72,7 +75,10 @@ fn load_long<C: Constants>(
     end: u32,
 ) -> Option<u64>
     requires runs { under C.Constants consts.now RunsOver arena.now frames.old (record { instruction = fetched.Number number_ops.LoadFastN n; end = end }) }
-    ensures { under C.Constants consts.now ActsAtOnce (record { instruction = fetched.Number number_ops.LoadFastN n; end = end }) arena.now frames.old frames.new result }
+    ensures { under C.Constants consts.now ActsAtOnce (record {
+      instruction = fetched.Number number_ops.LoadFastN n;
+      end = end;
+    }) arena.now frames.old frames.new result }
 {
     acting_law();
     done(load(frames, arena, consts, n, end))

@@ -21,7 +21,10 @@ fn load_name<C: Constants>(
     end: u32,
 ) -> Option<u64>
     requires runs { under C.Constants consts.now RunsOver arena.now frames.old (record { instruction = fetched.Name name_ops.LoadName name; end = end }) }
-    ensures { under C.Constants consts.now ActsAtOnce (record { instruction = fetched.Name name_ops.LoadName name; end = end }) arena.now frames.old frames.new result }
+    ensures { under C.Constants consts.now ActsAtOnce (record {
+      instruction = fetched.Name name_ops.LoadName name;
+      end = end;
+    }) arena.now frames.old frames.new result }
 {
     acting_law();
     done(frame_values::load_name(frames, arena, consts, name, end))
@@ -37,7 +40,10 @@ fn load_global<C: Constants>(
     end: u32,
 ) -> Option<u64>
     requires runs { under C.Constants consts.now RunsOver arena.now frames.old (record { instruction = fetched.Name name_ops.LoadGlobal name; end = end }) }
-    ensures { under C.Constants consts.now ActsAtOnce (record { instruction = fetched.Name name_ops.LoadGlobal name; end = end }) arena.now frames.old frames.new result }
+    ensures { under C.Constants consts.now ActsAtOnce (record {
+      instruction = fetched.Name name_ops.LoadGlobal name;
+      end = end;
+    }) arena.now frames.old frames.new result }
 {
     acting_law();
     done(frame_values::load_name(frames, arena, consts, name, end))

@@ -1,6 +1,7 @@
 //! One frame: the memory of one call, with its locals, slots and handler entries in vectors of a fixed room.
 
-ghost use Rattle.std.specs.Prelude.{◌≡◌, ℕ, ◌+◌, ◌-◌, ◌^◌, ◌<◌, ◌≤◌, List, [], ◌∷◌, length, drop, Option, Some, None, IfOk, IfSome, option_and_then, slice_get, slice_set, slice_index_or, map, replicate, reverse, take};
+ghost use Rattle.std.specs.Prelude.{◌≡◌, ℕ, ◌+◌, ◌-◌, ◌^◌, ◌<◌, ◌≤◌, List, [], ◌∷◌, length, drop, Option, Some, None, IfOk};
+ghost use Rattle.std.specs.Prelude.{IfSome, option_and_then, slice_get, slice_set, slice_index_or, map, replicate, reverse, take};
 ghost use Rattle.std.specs.Vec.{vec_capacity};
 ghost use Rattle.arena_heap.specs.declared.value.Value.{Value as Item};
 ghost use Rattle.vm_frames.specs.Calls.{Call};
@@ -182,7 +183,18 @@ impl Frame {
     /// It begins a code, with empty locals.
     pub fn begin(&mut self, module_number: u32, code: u32, names: DictNo, role: Role, locals: u32)
         requires { locals ≤ self.old.slot_room }
-        ensures { self.new ≡ record self.old { call = record { module_number = module_number; code = code; at = 0; names = names; role = role; locals = replicate locals None; slots = []; entries = [] } } }
+        ensures { self.new ≡ record self.old {
+          call = record {
+            module_number = module_number;
+            code = code;
+            at = 0;
+            names = names;
+            role = role;
+            locals = replicate locals None;
+            slots = [];
+            entries = [];
+          };
+        } }
     {
         self.module_number = module_number;
         self.code = code;
@@ -302,7 +314,12 @@ impl Frame {
     pub fn setup(&mut self, handler: u32, finally: bool)
         requires slot { length self.old.call.slots < self.old.slot_room }
         requires room { length self.old.call.entries < self.old.entry_room }
-        ensures { self.new ≡ record self.old { call = record self.old.call { entries = (record { handler = handler; is_finally = finally; height = length self.old.call.slots; kept = None }) ∷ self.old.call.entries } } }
+        ensures { self.new ≡ record self.old {
+          call = record self.old.call {
+            entries = (record { handler = handler; is_finally = finally; height = length self.old.call.slots; kept = None })
+                ∷ self.old.call.entries;
+          };
+        } }
     {
         let height = self.height();
         self.add_entry(Entry {

@@ -1,6 +1,7 @@
 //! The stack of frames.
 
-ghost use Rattle.std.specs.Prelude.{◌≡◌, ℕ, ◌^◌, ◌<◌, ◌≤◌, List, [], ◌∷◌, length, drop, reverse, Option, Some, None, false, IfOk, All, slice_get, slice_set, replicate};
+ghost use Rattle.std.specs.Prelude.{◌≡◌, ℕ, ◌^◌, ◌<◌, ◌≤◌, List, [], ◌∷◌, length, drop, reverse, Option, Some, None, false, IfOk};
+ghost use Rattle.std.specs.Prelude.{All, slice_get, slice_set, replicate};
 ghost use Rattle.mpy_base.specs.declared.limits.TheConstants.{MAX_CALLS as LIMIT};
 ghost use Rattle.vm_frames.specs.Calls.{Call, Calls, OfRunning, on_running};
 ghost use Rattle.vm_frames.specs.Held.{HasRoom};
@@ -110,7 +111,18 @@ impl Frames {
     )
         requires shallow { length self.old.calls < LIMIT }
         requires room { locals ≤ self.old.slot_room }
-        ensures { self.new ≡ record self.old { calls = (record { module_number = module_number; code = code; at = 0; names = names; role = role; locals = replicate locals None; slots = []; entries = [] }) ∷ self.old.calls } }
+        ensures { self.new ≡ record self.old {
+          calls = (record {
+            module_number = module_number;
+            code = code;
+            at = 0;
+            names = names;
+            role = role;
+            locals = replicate locals None;
+            slots = [];
+            entries = [];
+          }) ∷ self.old.calls;
+        } }
     {
         let at = self.depth;
         mem::swap(&mut self.top, &mut self.frames[at]);
@@ -228,7 +240,9 @@ impl Frames {
     pub fn setup(&mut self, handler: u32, finally: bool)
         requires slot { OfRunning (λ c. length c.slots < self.old.slot_room) self.old.calls }
         requires entry { OfRunning (λ c. length c.entries < self.old.entry_room) self.old.calls }
-        ensures { self.new ≡ on_running (λ c. record c { entries = (record { handler = handler; is_finally = finally; height = length c.slots; kept = None }) ∷ c.entries }) self.old }
+        ensures { self.new ≡ on_running (λ c. record c {
+          entries = (record { handler = handler; is_finally = finally; height = length c.slots; kept = None }) ∷ c.entries;
+        }) self.old }
     {
         self.top.setup(handler, finally);
     }

@@ -12,7 +12,11 @@ use arena_heap::{ExcNo, Value};
 fn enter(frame: &mut Frame, entry: Entry, slot: Slot)
     requires there { 0 < length frame.old.call.entries }
     requires low { entry.height < frame.old.slot_room }
-    ensures { frame.new ≡ with_call frame.old (record frame.old.call { at = entry.handler; slots = slot ∷ cut entry.height frame.old.call.slots; entries = entry ∷ drop 1 frame.old.call.entries }) }
+    ensures { frame.new ≡ with_call frame.old (record frame.old.call {
+      at = entry.handler;
+      slots = slot ∷ cut entry.height frame.old.call.slots;
+      entries = entry ∷ drop 1 frame.old.call.entries;
+    }) }
 {
     frame.cut(entry.height);
     frame.push(slot);
@@ -69,7 +73,8 @@ pub fn leave(frame: &mut Frame, v: Value) -> Option<u32>
 /// Jumps to the offset `target` out of `entries` entries, up to the innermost finally that is run before.
 pub fn jump(frame: &mut Frame, target: u32, entries: u8, iterator: bool) -> Option<u32>
     requires { entries ≤ length frame.old.call.entries }
-    ensures moved { jumped target entries iterator frame.old.call.entries frame.old.call.slots frame.old.call ≡ record { handler = result; call = frame.new.call } }
+    ensures moved { jumped target entries iterator frame.old.call.entries frame.old.call.slots frame.old.call
+        ≡ record { handler = result; call = frame.new.call } }
     ensures room { frame.new ≡ with_call frame.old frame.new.call }
 {
     let mut left = entries;

@@ -24,20 +24,32 @@ ghost use Rattle.vm_frames.specs.Placed.{IsPlaced};
 /// with its arguments in its first locals; and the exceptions that entries keep.
 pub fn moves_law()
     ensures goes { (view : View) (c : Call) (at : ℕ) (st : List Slot) (es : List Entry) (frames : List states.Frame) (w : PlainWorld)
-        → go (position_in (starts_of view c) at) (slots_of view (starts_of view c) st) (entries_of (starts_of view c) (position_of view c) es) (frame_of view c) frames w
+        → go (position_in (starts_of view c) at) (slots_of view (starts_of view c) st)
+        (entries_of (starts_of view c) (position_of view c) es) (frame_of view c) frames w
         ≡ Running 0 (frame_of view (record c { at = at; slots = st; entries = es })) frames w }
     ensures raises { (view : View) (x : ExcNo) (c : Call) (frames : List states.Frame) (w : PlainWorld) (outside : State) → IsPlaced view c
         → throw_in x.cell (frame_of view c).entries (frame_of view c) frames w outside ≡ behind view (raised x c) frames w outside }
     ensures returns { (view : View) (v : Value) (c : Call) (frames : List states.Frame) (w : PlainWorld) → IsPlaced view c
         → leave (view.plain v) (frame_of view c).entries (frame_of view c) frames w
         ≡ behind view (returned v c) frames w (give (view.plain v) (frame_of view c).role frames w) }
-    ensures jumps { (view : View) (target count : ℕ) (it : Bool) (c : Call) (frames : List states.Frame) (w : PlainWorld) → IsPlaced view c → count ≤ length c.entries
+    ensures jumps { (view : View) (target count : ℕ) (it : Bool) (c : Call) (frames : List states.Frame) (w : PlainWorld) → IsPlaced view c
+        → count ≤ length c.entries
         → unwind (position_in (starts_of view c) target) it count (frame_of view c).entries (frame_of view c).slots (frame_of view c) frames w
         ≡ Running 0 (frame_of view (jumped target count it c.entries c.slots c).call) frames w }
-    ensures begins { (view : View) (module_number number : ℕ) (code : Code) (vs : List (Option Value)) (names : DictNo) (role : Role) (bytes : List ℕ) (l : CodeList)
+    ensures begins { (view : View) (module_number number : ℕ) (code : Code) (vs : List (Option Value)) (names : DictNo) (role : Role)
+        (bytes : List ℕ) (l : CodeList)
         → Listed bytes l → view.starts module_number number ≡ l.offsets
         → new_frame (view.module_name module_number) number code (locals_of view vs) names.cell (role_of view (view.module_name module_number) role)
-        ≡ frame_of view (record { module_number = module_number; code = number; at = 0; names = names; role = role; locals = vs ++ replicate (code.locals - length vs) None; slots = []; entries = [] }) }
+        ≡ frame_of view (record {
+          module_number = module_number;
+          code = number;
+          at = 0;
+          names = names;
+          role = role;
+          locals = vs ++ replicate (code.locals - length vs) None;
+          slots = [];
+          entries = [];
+        }) }
     ensures keeps { (starts : List ℕ) (position : ℕ) (es : List Entry) → kept_of (entries_of starts position es) ≡ map (λ (x : ExcNo). x.cell) (kept_in es) }
 {}
 

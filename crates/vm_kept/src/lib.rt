@@ -60,7 +60,8 @@ pub fn step_law()
 /// Behind a stop that is thrown through them and leaves them running, the calls keep exceptions and methods of the objects that
 /// there are then.
 pub fn raises_law()
-    ensures { (p : Program) (place : Place) (between behind : Heap Value ℕ) (earlier later : Registry) (again : ℕ) (w v : PlainWorld) (old new : Calls) (stop : Stop) → Means p
+    ensures { (p : Program) (place : Place) (between behind : Heap Value ℕ) (earlier later : Registry) (again : ℕ) (w v : PlainWorld)
+        (old new : Calls) (stop : Stop) → Means p
         → HoldsKept p between.objects old → Later between.objects behind.objects
         → stopping_of p.tables place (with_modules p.tables w earlier) between old.calls stop
         ≡ running_of p.tables again new.calls (world_of p.tables (with_modules p.tables v later) behind)

@@ -72,8 +72,11 @@ call_end (Ok done) end = Ok end
 call_end (Err failed) end = Err failed
 
 -- a call of this was made, with the operands that the machine holds: in each program of the library it comes to this
-pub record Called {S : Type 0} (told : S → Option (List ℕ)) (count : S → ℕ) (shelf : Shelf) (callee : Callee) (old new : Vm) (before behind : Outside S) (result : Result (Unit {0}) SinkFault) : Type 0 where
-  pub calls : (p : Program) → IsProgramOf shelf p → CallsOn told count p callee old.operands (seen_by old before) (seen_by new behind) old.modules new.modules old.frames new.frames (call_end result new.end)
+pub record Called {S : Type 0} (told : S → Option (List ℕ)) (count : S
+    → ℕ) (shelf : Shelf) (callee : Callee) (old new : Vm) (before behind : Outside S) (result : Result (Unit {0}) SinkFault) : Type 0 where
+  pub calls : (p : Program) → IsProgramOf shelf p
+      → CallsOn told count p callee old.operands (seen_by old before) (seen_by new behind) old.modules new.modules old.frames new.frames
+      (call_end result new.end)
   pub memory : SameMemory old new
   pub paid : new.paid ≡ old.paid
   pub stays : OnErr result (new.end ≡ old.end)

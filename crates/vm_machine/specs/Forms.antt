@@ -39,4 +39,5 @@ IsNoCall (forms.Calls op number) = ⊥
 
 -- if it is no call, it makes no visits, whatever it runs over
 abbrev pub MakesNoVisits : Instruction → Type 0
-MakesNoVisits i = (texts : StrNo → Option (List ℕ)) (tuples : ConstNo → Option (List Value)) (heap : Heap Value ℕ) (calls : List Call) → value_visits texts tuples heap calls i ≡ 0
+MakesNoVisits i = (texts : StrNo → Option (List ℕ)) (tuples : ConstNo → Option (List Value)) (heap : Heap Value ℕ) (calls : List Call)
+    → value_visits texts tuples heap calls i ≡ 0

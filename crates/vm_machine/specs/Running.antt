@@ -83,24 +83,28 @@ module _ {S : Type 0} (told : S → Option (List ℕ)) where
       pub text : List ℕ
       pub puts : Puts told count between.out behind.out true text
       pub onwards : List Call
-      pub next : step p.library (machine_of p there runs.after) ≡ running_of p.tables 0 onwards (record (world_in p there runs.after) { output = runs.after.output ++ text })
+      pub next : step p.library (machine_of p there runs.after)
+          ≡ running_of p.tables 0 onwards (record (world_in p there runs.after) { output = runs.after.output ++ text })
       pub ports : behind.ports ≡ between.ports
 
   module _ (shelf : Shelf) (old : Vm) (before behind : Outside S) (most : ℕ) where
     -- the machine's run is made for these steps, in each program of the library, where no port fails that the machine's doesn't.
     -- A run that has ended stays as it is
     abbrev pub Runs : (new : Vm) → Type 0
-    Runs new = (p : Program) → IsProgramOf shelf p → (w : PlainWorld) → Agree before w → RunsFor p old w most new behind ⊎ Strays p old w most before.ports behind.ports
+    Runs new = (p : Program) → IsProgramOf shelf p → (w : PlainWorld) → Agree before w
+        → RunsFor p old w most new behind ⊎ Strays p old w most before.ports behind.ports
 
     -- the machine's run is made up to a put in which the sink failed, within these steps, in each program of the library, where no port
     -- fails that the machine's doesn't
     abbrev pub RunsToFailure : (count : S → ℕ) → Type 0
-    RunsToFailure count = (p : Program) → IsProgramOf shelf p → (w : PlainWorld) → Agree before w → SinkFails p old w count most behind ⊎ Strays p old w most before.ports behind.ports
+    RunsToFailure count = (p : Program) → IsProgramOf shelf p → (w : PlainWorld) → Agree before w
+        → SinkFails p old w count most behind ⊎ Strays p old w most before.ports behind.ports
 
 -- The machine has taken some of these steps, one at least, and in each program of the library they are its run's; where it pays for
 -- visits it has paid no more than it took. Where the sink failed it stands at that put, with what was paid before. It runs the
 -- library again, the sink's count of faults rose exactly where it failed, and no port's count fell
-pub record Advances {S : Type 0} (told : S → Option (List ℕ)) (count : S → ℕ) (shelf : Shelf) (old new : Vm) (before behind : Outside S) (most : ℕ) (result : Result ℕ SinkFault) : Type 0 where
+pub record Advances {S : Type 0} (told : S → Option (List ℕ)) (count : S
+    → ℕ) (shelf : Shelf) (old new : Vm) (before behind : Outside S) (most : ℕ) (result : Result ℕ SinkFault) : Type 0 where
   pub vm : IsVm shelf new
   pub runs : IfOk result (λ taken. Runs told shelf old before behind taken new)
   pub failed : OnErr result (RunsToFailure told shelf old before behind most count)

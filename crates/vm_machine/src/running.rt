@@ -32,8 +32,12 @@ pub fn run<S: Sink, P: Port>(
     requires countable { vm.old.paid + steps < 2 ^ 64 }
     requires kept { AreFetched library.now cache.old }
     ensures vm { IsVm library.now vm.new }
-    ensures runs { IfOk result (λ done. Runs S.told library.now vm.old (record { out = out.old; ports = map P.seen ports.old }) (record { out = out.new; ports = map P.seen ports.new }) steps vm.new) }
-    ensures failed { OnErr result (RunsToFailure S.told library.now vm.old (record { out = out.old; ports = map P.seen ports.old }) (record { out = out.new; ports = map P.seen ports.new }) steps S.count) }
+    ensures runs { IfOk result
+        (λ done. Runs S.told library.now vm.old (record { out = out.old; ports = map P.seen ports.old })
+        (record { out = out.new; ports = map P.seen ports.new }) steps vm.new) }
+    ensures failed { OnErr result
+        (RunsToFailure S.told library.now vm.old (record { out = out.old; ports = map P.seen ports.old })
+        (record { out = out.new; ports = map P.seen ports.new }) steps S.count) }
     ensures counts { Counts (S.count out.old) (S.count out.new) (is_err result) }
     ensures faults { CountsKeep (map P.seen ports.old) (map P.seen ports.new) }
     ensures paid { vm.new.paid ≤ vm.old.paid + steps }

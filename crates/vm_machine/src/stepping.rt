@@ -85,7 +85,8 @@ fn make_call<S: Sink, P: Port>(
     requires rows { rows.now ≡ library.now }
     requires taken { IsTaken library.now op number vm.old.arena vm.old.frames vm.old.operands invocation }
     ensures kept { vm.new.end ≡ None → (p : Program) → IsProgramOf library.now p → HoldsKept p vm.new.arena.objects vm.new.frames }
-    ensures called { Called S.told S.count library.now invocation.callee vm.old vm.new (record { out = out.old; ports = map P.seen ports.old }) (record { out = out.new; ports = map P.seen ports.new }) result }
+    ensures called { Called S.told S.count library.now invocation.callee vm.old vm.new
+        (record { out = out.old; ports = map P.seen ports.old }) (record { out = out.new; ports = map P.seen ports.new }) result }
     ensures counts { Counts (S.count out.old) (S.count out.new) (is_err result) }
     ensures faults { CountsKeep (map P.seen ports.old) (map P.seen ports.new) }
 {

@@ -49,4 +49,5 @@ pub record IsFetchedOf (shelf : Shelf) (module_number code offset : ℕ) (fetche
 -- all that is kept is what is fetched at its place
 abbrev pub AreFetched : Shelf → Kept → Type 0
 AreFetched shelf kept =
-    (module_number code offset : ℕ) (fetched : Fetched) → kept_at kept module_number code offset ≡ Some fetched → IsFetchedOf shelf module_number code offset fetched
+    (module_number code offset : ℕ) (fetched : Fetched) → kept_at kept module_number code offset ≡ Some fetched
+    → IsFetchedOf shelf module_number code offset fetched

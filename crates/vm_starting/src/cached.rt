@@ -16,5 +16,6 @@ pub fn cache_law()
 
 /// What is fetched of a code is fetched of each of its rows.
 pub fn row_law()
-    ensures { (shelf : Shelf) (i k at : ℕ) (fetched : Fetched) (row : Row) → IsFetchedOf shelf i k at fetched → IsRow shelf i k row → IsFetched shelf i row at fetched }
+    ensures { (shelf : Shelf) (i k at : ℕ) (fetched : Fetched) (row : Row) → IsFetchedOf shelf i k at fetched → IsRow shelf i k row
+        → IsFetched shelf i row at fetched }
 {}

@@ -123,7 +123,8 @@ impl Vm {
         requires names { AreTitles library.now names.items }
         requires rows { rows.now ≡ library.now }
         requires there { number < length library.now.modules }
-        ensures starts { IfOk result (λ vm. (p : Program) (name : Name) (ports : List PortState) → IsProgramOf library.now p → p.tables.module_name number ≡ name
+        ensures starts { IfOk result (λ vm. (p : Program) (name : Name) (ports : List PortState) → IsProgramOf library.now p
+            → p.tables.module_name number ≡ name
             → start p.library name (new_world room.cells room.bytes ports) ≡ state_in p vm (new_world room.cells room.bytes ports)) }
         ensures state { IfOk result (λ vm. vm.end ≡ None → (p : Program) → IsProgramOf library.now p → IsState p vm.arena.objects vm.frames) }
         ensures memory { IfOk result (λ vm. (n_state : ℕ) × (n_exc : ℕ) × HasMemory library.now n_state n_exc vm) }

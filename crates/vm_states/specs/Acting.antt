@@ -25,7 +25,8 @@ pub record Tells (texts : StrNo → Option (List ℕ)) (tuples : ConstNo → Opt
   pub tuples_are : p.tables.tuples ≡ tuples
 
 -- the calls run a program with these texts and tuples over the arena, and this was fetched for the first of them
-pub record RunsOver (texts : StrNo → Option (List ℕ)) (tuples : ConstNo → Option (List Value)) (heap : Heap Value ℕ) (s : Calls) (fetched : Fetched) : Type 0 where
+pub record RunsOver (texts : StrNo → Option (List ℕ)) (tuples : ConstNo
+    → Option (List Value)) (heap : Heap Value ℕ) (s : Calls) (fetched : Fetched) : Type 0 where
   pub program : Program
   pub row : Row
   pub means : Means program
@@ -48,7 +49,8 @@ module _ (p : Program) where
     pub stop : IsKnownStop p.tables.texts p.tables.tuples behind.objects result
 
 -- so it is in each program with these texts and tuples that the old calls run, where this was fetched for the first of them
-abbrev pub ActsBehind : (texts : StrNo → Option (List ℕ)) → (tuples : ConstNo → Option (List Value)) → Fetched → (visits : ℕ) → (before behind : Heap Value ℕ) → (old new : Calls) → Result (Unit {0}) Stop → Type 0
+abbrev pub ActsBehind : (texts : StrNo → Option (List ℕ)) → (tuples : ConstNo → Option (List Value)) → Fetched → (visits : ℕ)
+    → (before behind : Heap Value ℕ) → (old new : Calls) → Result (Unit {0}) Stop → Type 0
 ActsBehind texts tuples fetched visits before behind old new result =
     (p : Program) (row : Row) → Means p → Tells texts tuples p → IsState p before.objects old → (ready : IsReady p old row fetched)
     → Acts p ready.place visits before behind old new result

@@ -13,7 +13,8 @@ use Rattle.bc_progress.specs.py_values.Shown.{PlainHeap}
 use Rattle.frame_exits.specs.mpy_base.Val.{Val}
 use Rattle.bc_progress.specs.py_primitives.Outcome.{Outcome}
 use Rattle.bc_progress.specs.Plans.{Plan}
-use Rattle.vm_states.specs.OnTop.{OneValue, TwoValues, ThreeValues, Values, Anything, OneDropped, TwoOperands, ThreeOperands, Stored, Defaults, IsLooked, Iterator, Ending, Except}
+use Rattle.vm_states.specs.OnTop.{OneValue, TwoValues, ThreeValues, Values, Anything, OneDropped, TwoOperands, ThreeOperands}
+use Rattle.vm_states.specs.OnTop.{Stored, Defaults, IsLooked, Iterator, Ending, Except}
 
 module _ (plan : Plan) (library : Library) (code : Code) (frame : Frame) where
   -- room for `given` slots in the place of the `taken` topmost

@@ -114,7 +114,8 @@ pub record Except (entries : List Entry) : Type 0 where
 module _ (view : View) where
   -- a method and its object, or a value to be called without one
   pub data IsLooked : List Slot → Type 0 where
-    bound : (object method : Value) (builtin : Builtin) (below : List Slot) → view.plain method ≡ Built builtin → IsLooked (slots.Object (Some object) ∷ slots.Value method ∷ below)
+    bound : (object method : Value) (builtin : Builtin) (below : List Slot) → view.plain method ≡ Built builtin
+        → IsLooked (slots.Object (Some object) ∷ slots.Value method ∷ below)
     free : (v : Value) (below : List Slot) → IsLooked (slots.Object None ∷ slots.Value v ∷ below)
 
   -- what a finally has kept, where `entries` entries lie below its own: nothing, an exception, a return, or a jump out of no

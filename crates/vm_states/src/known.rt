@@ -15,11 +15,13 @@ ghost use Rattle.vm_states.specs.State.{IsKnownValue, IsKnownSlot, IsKnownLocal,
 /// that run the program of which the first one goes on with known slots and locals, as with a known value in the place of
 /// slots, or without slots.
 pub fn known_law()
-    ensures stays { (p : Program) (before behind : Objects Value ℕ) (s : Calls) → IsState p before s → Later before behind → AllTold p.tables.texts p.tables.tuples behind → IsState p behind s }
+    ensures stays { (p : Program) (before behind : Objects Value ℕ) (s : Calls) → IsState p before s → Later before behind
+        → AllTold p.tables.texts p.tables.tuples behind → IsState p behind s }
     ensures goes_on { (p : Program) (before behind : Objects Value ℕ) (s new : Calls) (at : ℕ) (st : Call → List Slot) (locals : Call → List (Option Value))
         → IsState p before s → Later before behind → AllTold p.tables.texts p.tables.tuples behind → IsRunning p new
         → new ≡ on_running (λ c. record c { at = at; slots = st c; locals = locals c }) s
-        → ((c : Call) → IsKnownCall p behind c → All (IsKnownSlot p behind) (st c)) → ((c : Call) → IsKnownCall p behind c → All (IsKnownLocal p behind) (locals c))
+        → ((c : Call) → IsKnownCall p behind c → All (IsKnownSlot p behind) (st c))
+        → ((c : Call) → IsKnownCall p behind c → All (IsKnownLocal p behind) (locals c))
         → IsState p behind new }
     ensures puts { (p : Program) (before behind : Objects Value ℕ) (s new : Calls) (end taken : ℕ) (v : Value)
         → IsState p before s → Later before behind → AllTold p.tables.texts p.tables.tuples behind → IsRunning p new → IsKnownValue p behind v

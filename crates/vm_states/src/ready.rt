@@ -28,7 +28,8 @@ use vm_fetching::{rows_law, step_law};
 /// Of calls that run a program: the first one's code has a row, which is verified; an instruction starts at the call's offset;
 /// and what is fetched there is ready.
 pub fn ready_law()
-    ensures row { (p : Program) (s : Calls) (c : Call) (cs : List Call) → Means p → IsRunning p s → s.calls ≡ c ∷ cs → IsSome (code_numbered p.shelf c.module_number c.code) }
+    ensures row { (p : Program) (s : Calls) (c : Call) (cs : List Call) → Means p → IsRunning p s → s.calls ≡ c ∷ cs
+        → IsSome (code_numbered p.shelf c.module_number c.code) }
     ensures verified { (p : Program) (s : Calls) (c : Call) (cs : List Call) (row : Row) → Means p → IsRunning p s → s.calls ≡ c ∷ cs
         → IsRow p.shelf c.module_number c.code row → IsVerifiedRow p.shelf c.module_number row }
     ensures starts { (p : Program) (s : Calls) (c : Call) (cs : List Call) (row : Row) → Means p → IsRunning p s → s.calls ≡ c ∷ cs
@@ -49,7 +50,8 @@ pub fn keeps_law()
     ensures went { (p : Program) (s new : Calls) (paid again : ℕ) (before behind : PlainWorld) → Means p → IsRunning p s
         → step p.library (running_of p.tables paid s.calls before) ≡ running_of p.tables again new.calls behind
         → All (IsPlaced (view_of p.tables)) new.calls → All (IsOfModule p) new.calls → new ≡ record s { calls = new.calls } → IsRunning p new }
-    ensures goes_on { (p : Program) (s new : Calls) (row : Row) (fetched : Fetched) (r : IsReady p s row fetched) (at : ℕ) (st : Call → List Slot) (locals : Call → List (Option Value)) (paid : ℕ) (before behind : PlainWorld)
+    ensures goes_on { (p : Program) (s new : Calls) (row : Row) (fetched : Fetched) (r : IsReady p s row fetched) (at : ℕ) (st : Call
+        → List Slot) (locals : Call → List (Option Value)) (paid : ℕ) (before behind : PlainWorld)
         → Means p → IsRunning p s → Starts (starts_of (view_of p.tables) r.first) at
         → new ≡ on_running (λ c. record c { at = at; slots = st c; locals = locals c }) s
         → step_of p.tables p.library r.place paid s.calls before (item_at p r.first fetched) ≡ running_of p.tables 0 new.calls behind → IsRunning p new }

@@ -1,7 +1,7 @@
 use Rattle.std.proofs.Common.{ℕ, Option, length, ap, sym, subst, ◌∙◌}
 use Rattle.mpy_base.specs.declared.limits.TheConstants.{MAX_TASKS}
 use Rattle.mpy_io.specs.Files.{FileOf}
-use Rattle.board_meaning.specs.board_files.Files.{KeepsOthers}
+use Rattle.board_files.specs.Files.{KeepsOthers}
 use Rattle.command_files.specs.mpy_endings.declared.ending.Ending.{Ending}
 use Rattle.board_command.specs.Boards.{Boards, Holds}
 use Rattle.board_command.specs.Plans.{HoldsPlan, RefusesPlan}

@@ -2,7 +2,7 @@ use Rattle.std.proofs.Common.{ℕ, List, Option, sym, subst}
 use Rattle.mpy_io.specs.Files.{FileOf}
 use Rattle.image_open.specs.image_grammar.bc_library.Shelf.{Shelf}
 use Rattle.image_open.specs.image_grammar.Base.{base_of}
-use Rattle.meant_commands.specs.image_commands.Freeze.{Freezes}
+use Rattle.meant_commands.specs.file_commands.Freeze.{Freezes}
 use Rattle.meant_commands.specs.image_freeze.Fronts.{MayLieOver}
 use Rattle.mpy_tool.specs.Below.{image_version}
 use Rattle.mpy_tool.proofs.Under.{is_opened, may_lie}

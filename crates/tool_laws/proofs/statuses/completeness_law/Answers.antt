@@ -3,8 +3,8 @@ use Rattle.meant_commands.specs.file_commands.CheckAs.{ChecksAs}
 use Rattle.meant_commands.specs.file_commands.Cross.{Crosses}
 use Rattle.meant_commands.specs.file_commands.Dump.{Dumps}
 use Rattle.meant_commands.specs.file_commands.Merge.{Merges}
-use Rattle.meant_commands.specs.image_commands.Freeze.{Freezes}
-use Rattle.meant_commands.specs.image_commands.Migrate.{Migrates}
+use Rattle.meant_commands.specs.file_commands.Freeze.{Freezes}
+use Rattle.meant_commands.specs.file_commands.Migrate.{Migrates}
 use Rattle.board_command.specs.Boards.{Boards}
 use Rattle.tool_laws.proofs.Settling.{ends_at_done, ends_done, writes_done, writes_of_done}
 use Rattle.tool_laws.proofs.statuses.completeness_law.Goals as goal

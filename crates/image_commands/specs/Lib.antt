@@ -1,3 +1,0 @@
-pub use Rattle.frozen_files.specs.mpy_compile
-pub mod Freeze
-pub mod Migrate

@@ -1,0 +1,16 @@
+mod Acting
+mod Binding
+mod Calling
+mod Changes
+mod FileConstants
+mod Framing
+mod Lists
+mod Making
+mod Marking
+mod Moduling
+mod Moving
+mod Onward
+mod Operating
+mod Running
+mod Stepping
+mod Using

@@ -1,5 +1,0 @@
-use Rattle.std.proofs.Common.{sym}
-use Rattle.stress_command.proofs.making.codes_of.Goals as goal
-
-pub returns : goal.returns
-returns c = record { main = c.in-Some.main.now; is_main = sym c.in-Some.ensures; number_is = c.codes.ensures }

@@ -1,6 +1,0 @@
-use Rattle.std.proofs.Common.{◌≡◌, ◌-◌, ◌++◌}
-use Rattle.stress_command.specs.Source.{calls}
-use Rattle.stress_command.proofs.source.put_calls.Given as goal
-
-abbrev pub invariant-loop-number : goal.invariant-loop-number
-invariant-loop-number l = l.text.items ++ calls (l.many - l.number) l.number ≡ l.initial.text.items ++ calls l.many 0

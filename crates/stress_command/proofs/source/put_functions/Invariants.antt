@@ -1,8 +1,0 @@
-use Rattle.std.proofs.Common.{◌≡◌, ◌-◌, ◌++◌}
-use Rattle.stress_command.specs.Source.{functions}
-use Rattle.stress_command.proofs.source.put_functions.Given as goal
-
-abbrev pub invariant-loop-number : goal.invariant-loop-number
-invariant-loop-number l =
-    l.text.items ++ functions (l.many - l.number) l.draws.state l.number l.left
-    ≡ l.initial.text.items ++ functions l.many l.initial.draws.state 0 l.count
