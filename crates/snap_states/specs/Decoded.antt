@@ -35,7 +35,7 @@ use Rattle.vm_starting.specs.vm_states.vm_frames.declared.slot.Role.TheVariants 
 use Rattle.vm_starting.specs.vm_states.vm_frames.Calls.{Call}
 use Rattle.vm_starting.specs.vm_states.prim_modules.declared.entry.Entry.{Entry as Registered}
 use Rattle.vm_starting.specs.vm_states.prim_modules.Registry.{Registry}
-use Rattle.vm_starting.specs.vm_states.bc_progress.py_primitives.Builtins.{all_kinds, globals}
+use Rattle.prim_walks.specs.py_primitives.Builtins.{all_kinds, globals}
 use Rattle.snap_grammar.specs.declared.parts.ValuePart.{ValuePart}
 use Rattle.snap_grammar.specs.declared.parts.ValuePart.TheVariants as parts
 use Rattle.snap_grammar.specs.declared.parts.PairPart.{PairPart}
@@ -48,7 +48,7 @@ use Rattle.snap_grammar.specs.declared.parts.RolePart.{RolePart}
 use Rattle.snap_grammar.specs.declared.parts.RolePart.TheVariants as roles
 use Rattle.snap_grammar.specs.declared.parts.FramePart.{FramePart}
 use Rattle.snap_grammar.specs.declared.parts.Snapshot.{Snapshot}
-use Rattle.vm_starting.specs.vm_states.bc_progress.py_values.Names.{builtin_name}
+use Rattle.prim_walks.specs.py_values.Names.{builtin_name}
 use Rattle.snap_states.specs.Parts.{part_kind, cells_of_parts, cell_of, more_cells}
 use Rattle.snap_states.specs.Shapes.{StandsAt}
 
