@@ -1,11 +1,11 @@
 -- Which snapshots are states of a library: one record for each group of conditions.
-use Rattle.std.specs.Prelude.{◌≡◌, ◌≢◌, ℕ, pos, ◌+◌, ◌^◌, ◌<◌, ◌≤◌, ◌⊎◌, Bool, true, false, List, [], ◌∷◌, ◌++◌, length, reverse, drop, Option, Some, None, IsSome, IfSome, All, Contains, codes, slice_get, option_and_then}
+use Rattle.std.specs.Prelude.{◌≡◌, ◌≢◌, ℕ, pos, ◌^◌, ◌<◌, ◌≤◌, ◌⊎◌, Bool, false, List, [], ◌∷◌, length, reverse, drop, Option, Some, None, IsSome, IfSome, All, Contains, codes, slice_get, option_and_then}
 use Rattle.std.specs.Option.{option_map}
 use Rattle.mpy_base.specs.declared.builtin.Builtin.{Builtin}
 use Rattle.mpy_base.specs.declared.kind.Kind.{Kind}
 use Rattle.mpy_base.specs.declared.limits.TheConstants.{MAX_CALLS}
 use Rattle.mpy_base.specs.Kind.{kind_name}
-use Rattle.mpy_base.specs.World.{Heap, ObjectKind, AList, ATuple, AText, ADict, AFunction, AnException, AMethod, ARange, AModule}
+use Rattle.mpy_base.specs.World.{Heap, ObjectKind, AList, ATuple, AText, ADict, AnException, ARange, AModule}
 use Rattle.mpy_base.specs.Weights.{IsRoom}
 use Rattle.mpy_base.specs.Val.{PlainWorld}
 use Rattle.arena_heap.specs.declared.value.StrNo.{StrNo}
