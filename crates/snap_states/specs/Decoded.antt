@@ -1,6 +1,6 @@
 -- The state that a snapshot stands for. Objects get the cells that they would have if each had been made in its last room: the
 -- cells that growing lists and dicts had left lie behind all of them.
-use Rattle.std.specs.Prelude.{◌≡◌, ℕ, zero, suc, ◌+◌, ◌-◌, Bool, true, false, List, [], ◌∷◌, ◌++◌, length, map, reverse, drop, replicate, Option, Some, None, unwrap_or, position, slice_get, option_and_then, bytes_eq, if◌then◌else◌}
+use Rattle.std.specs.Prelude.{◌≡◌, ℕ, zero, suc, ◌+◌, ◌-◌, Bool, true, false, List, [], ◌∷◌, ◌++◌, length, map, reverse, drop, replicate, Option, Some, None, unwrap_or, position, slice_get, bytes_eq, if◌then◌else◌}
 use Rattle.std.specs.Option.{option_map, option_or}
 use Rattle.std.specs.List.{flat_map}
 use Rattle.mpy_base.specs.declared.builtin.Builtin.{Builtin}
@@ -12,7 +12,6 @@ use Rattle.mpy_base.specs.Kind.{kind_name}
 use Rattle.mpy_base.specs.World.{Heap, ListObject, TupleObject, TextObject, DictObject, FunctionObject, ExceptionObject, MethodObject, RangeObject, ModuleObject}
 use Rattle.bc_library.specs.bc_shapes.declared.kinds.Kind.{Kind as SlotKind}
 use Rattle.bc_library.specs.bc_shapes.declared.kinds.Kind.TheVariants as kinds
-use Rattle.bc_library.specs.bc_shapes.Shape.{At}
 use Rattle.bc_library.specs.bc_verify.qstr_pool.Pool.{Texts, number_of}
 use Rattle.bc_library.specs.bc_verify.qstr_pool.Static.{static_number_of}
 use Rattle.bc_library.specs.mpy_tree.declared.module.Constant.{Constant, out-Constant}
@@ -35,7 +34,7 @@ use Rattle.vm_starting.specs.vm_states.vm_frames.declared.slot.Role.TheVariants 
 use Rattle.vm_starting.specs.vm_states.vm_frames.Calls.{Call}
 use Rattle.vm_starting.specs.vm_states.prim_modules.declared.entry.Entry.{Entry as Registered}
 use Rattle.vm_starting.specs.vm_states.prim_modules.Registry.{Registry}
-use Rattle.vm_starting.specs.vm_states.bc_progress.py_primitives.Builtins.{all_kinds, globals}
+use Rattle.prim_walks.specs.py_primitives.Builtins.{all_kinds, globals}
 use Rattle.snap_grammar.specs.declared.parts.ValuePart.{ValuePart}
 use Rattle.snap_grammar.specs.declared.parts.ValuePart.TheVariants as parts
 use Rattle.snap_grammar.specs.declared.parts.PairPart.{PairPart}
@@ -48,8 +47,8 @@ use Rattle.snap_grammar.specs.declared.parts.RolePart.{RolePart}
 use Rattle.snap_grammar.specs.declared.parts.RolePart.TheVariants as roles
 use Rattle.snap_grammar.specs.declared.parts.FramePart.{FramePart}
 use Rattle.snap_grammar.specs.declared.parts.Snapshot.{Snapshot}
-use Rattle.vm_starting.specs.vm_states.bc_progress.py_values.Names.{builtin_name}
-use Rattle.snap_states.specs.Parts.{part_kind, cells_of_parts, cell_of, more_cells}
+use Rattle.prim_walks.specs.py_values.Names.{builtin_name}
+use Rattle.snap_states.specs.Parts.{cells_of_parts, cell_of, more_cells}
 use Rattle.snap_states.specs.Shapes.{StandsAt}
 
 -- built-ins and kinds by their names

@@ -1,6 +1,5 @@
 -- What the objects of a snapshot are, whatever they hold: their kinds, their cells and their bytes.
 use Rattle.std.specs.Prelude.{ℕ, ◌+◌, ◌*◌, List, length, map, sum, take, Option, Some, None}
-use Rattle.std.specs.Option.{option_map}
 use Rattle.mpy_base.specs.declared.builtin.Builtin.{Builtin}
 use Rattle.mpy_base.specs.declared.builtin.Builtin.TheVariants as builtins
 use Rattle.mpy_base.specs.World.{ObjectKind, AList, ATuple, AText, ADict, AFunction, AnException, AMethod, ARange, AModule}

@@ -1,11 +1,11 @@
 -- Which snapshots are states of a library: one record for each group of conditions.
-use Rattle.std.specs.Prelude.{◌≡◌, ◌≢◌, ℕ, pos, ◌+◌, ◌^◌, ◌<◌, ◌≤◌, ◌⊎◌, Bool, true, false, List, [], ◌∷◌, ◌++◌, length, reverse, drop, Option, Some, None, IsSome, IfSome, All, Contains, codes, slice_get, option_and_then}
+use Rattle.std.specs.Prelude.{◌≡◌, ◌≢◌, ℕ, pos, ◌^◌, ◌<◌, ◌≤◌, ◌⊎◌, Bool, false, List, [], ◌∷◌, length, reverse, drop, Option, Some, None, IsSome, IfSome, All, Contains, codes, slice_get, option_and_then}
 use Rattle.std.specs.Option.{option_map}
 use Rattle.mpy_base.specs.declared.builtin.Builtin.{Builtin}
 use Rattle.mpy_base.specs.declared.kind.Kind.{Kind}
 use Rattle.mpy_base.specs.declared.limits.TheConstants.{MAX_CALLS}
 use Rattle.mpy_base.specs.Kind.{kind_name}
-use Rattle.mpy_base.specs.World.{Heap, ObjectKind, AList, ATuple, AText, ADict, AFunction, AnException, AMethod, ARange, AModule}
+use Rattle.mpy_base.specs.World.{Heap, ObjectKind, AList, ATuple, AText, ADict, AnException, ARange, AModule}
 use Rattle.mpy_base.specs.Weights.{IsRoom}
 use Rattle.mpy_base.specs.Val.{PlainWorld}
 use Rattle.arena_heap.specs.declared.value.StrNo.{StrNo}
@@ -23,8 +23,8 @@ use Rattle.vm_starting.specs.vm_states.bc_ops.declared.instr.Op.TheVariants as o
 use Rattle.vm_starting.specs.vm_states.bc_ops.declared.instr.Instr.TheVariants as instrs
 use Rattle.vm_starting.specs.vm_states.bc_ops.declared.listing.Item.{Item}
 use Rattle.vm_starting.specs.vm_states.bc_ops.declared.listing.Item.TheVariants as items
-use Rattle.vm_starting.specs.vm_states.bc_progress.py_values.Names.{builtin_name}
-use Rattle.vm_starting.specs.vm_states.bc_progress.py_values.Keys.{PlainKey, NoneKey, NumberKey, TextKey}
+use Rattle.prim_walks.specs.py_values.Names.{builtin_name}
+use Rattle.prim_walks.specs.py_values.Keys.{PlainKey, NoneKey, NumberKey, TextKey}
 use Rattle.vm_starting.specs.vm_states.frame_exits.Ends.{with_modules}
 use Rattle.vm_starting.specs.vm_states.frame_moves.Shown.{running_of}
 use Rattle.vm_starting.specs.vm_states.frame_moves.Outcomes.{world_of}
@@ -147,13 +147,17 @@ module _ (s : Snapshot) where
   kind_of_part parts.Empty = Some ATuple
   kind_of_part (parts.Named name) = None
 
-  -- what a value is as a key. True and 1 are one key, and a str is its bytes
+  -- the key that the object of a number is: a text is its bytes
+  abbrev pub key_at : ℕ → Option PlainKey
+  key_at number = option_map TextKey (option_and_then bytes_in_part (slice_get s.objects number))
+
+  -- what a value is as a key. True and 1 are one key
   abbrev pub key_of_part : ValuePart → Option PlainKey
   key_of_part parts.None = Some NoneKey
   key_of_part parts.False = Some (NumberKey (pos 0))
   key_of_part parts.True = Some (NumberKey (pos 1))
   key_of_part (parts.Int z) = Some (NumberKey z)
-  key_of_part (parts.Object number) = option_map TextKey (option_and_then bytes_in_part (slice_get s.objects number))
+  key_of_part (parts.Object number) = key_at number
   key_of_part (parts.Str text) = Some (TextKey text)
   key_of_part (parts.Fixed m n) = None
   key_of_part parts.Empty = None
