@@ -82,7 +82,7 @@ module _ (h : Heap Value ℕ) (n : ℕ) where
       ∙ (ap (λ (w : Heap Value ℕ). with_tuple w n (slice_set (items_at w n) k v)) e
       ∙ (ap (λ (r : Option ArenaObject). with_object (put old) n (TupleObject (slice_set (items_of r) k v))) (put_there old lt)
       ∙ (ap (λ zs. with_object (put old) n (TupleObject zs))
-          (set-append_right xs (replicate (suc m) values.None) k k v (sym at) le
-          ∙ (ap (λ j. xs ++ slice_set (replicate (suc m) values.None) j v) none
-          ∙ sym (append_assoc xs (v ∷ []) (replicate m values.None))))
+      (set-append_right xs (replicate (suc m) values.None) k k v (sym at) le
+      ∙ (ap (λ j. xs ++ slice_set (replicate (suc m) values.None) j v) none
+      ∙ sym (append_assoc xs (v ∷ []) (replicate m values.None))))
       ∙ put_again old (TupleObject ((xs ++ v ∷ []) ++ replicate m values.None)))))
