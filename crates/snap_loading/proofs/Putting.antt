@@ -1,10 +1,10 @@
 -- Objects that are put into the place of an object, one behind the other.
-use Rattle.std.proofs.Common.{◌≡◌, ℕ, zero, suc, ◌+◌, ◌-◌, ◌<◌, ◌≤◌, List, [], ◌∷◌, ◌++◌, length, map, take, replicate, set, Option, Some, None, slice_get, refl, sym, ap, ap₂, ◌∙◌, subst, arith, append_assoc, length-append, get_or-set_same}
+use Rattle.std.proofs.Common.{◌≡◌, ℕ, zero, suc, ◌-◌, ◌<◌, ◌≤◌, List, [], ◌∷◌, ◌++◌, length, map, take, replicate, Option, Some, None, slice_get, refl, sym, ap, ◌∙◌, arith, append_assoc, get_or-set_same}
 use Rattle.std.specs.Prelude.{slice_set}
 use Rattle.std.specs.List.{insert}
-use Rattle.std.proofs.lemmas.List.{set-get_or, set-set, set-append_right, length-map}
+use Rattle.std.proofs.lemmas.List.{set-get_or, set-set, set-append_right}
 use Rattle.std.proofs.lemmas.List.Edits.{insert_end}
-use Rattle.mpy_base.specs.World.{Heap, Later, ListObject, TupleObject, DictObject, ObjectKind, AList, ATuple, ADict, IsA, object, kind_of, items_of, items_at, pairs_of, pairs_at, room_of, room_at, with_object, with_list, with_tuple, with_dict}
+use Rattle.mpy_base.specs.World.{Heap, Later, ListObject, TupleObject, DictObject, ObjectKind, object, kind_of, items_of, items_at, pairs_of, pairs_at, room_of, with_object, with_list, with_tuple, with_dict}
 use Rattle.mpy_base.proofs.Worlds.{is_within, later_set}
 use Rattle.arena_heap.specs.declared.value.Value.{Value}
 use Rattle.arena_heap.specs.declared.value.Value.TheVariants as values
@@ -82,7 +82,7 @@ module _ (h : Heap Value ℕ) (n : ℕ) where
       ∙ (ap (λ (w : Heap Value ℕ). with_tuple w n (slice_set (items_at w n) k v)) e
       ∙ (ap (λ (r : Option ArenaObject). with_object (put old) n (TupleObject (slice_set (items_of r) k v))) (put_there old lt)
       ∙ (ap (λ zs. with_object (put old) n (TupleObject zs))
-          (set-append_right xs (replicate (suc m) values.None) k k v (sym at) le
-          ∙ (ap (λ j. xs ++ slice_set (replicate (suc m) values.None) j v) none
-          ∙ sym (append_assoc xs (v ∷ []) (replicate m values.None))))
+      (set-append_right xs (replicate (suc m) values.None) k k v (sym at) le
+      ∙ (ap (λ j. xs ++ slice_set (replicate (suc m) values.None) j v) none
+      ∙ sym (append_assoc xs (v ∷ []) (replicate m values.None))))
       ∙ put_again old (TupleObject ((xs ++ v ∷ []) ++ replicate m values.None)))))
