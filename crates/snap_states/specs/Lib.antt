@@ -1,7 +1,10 @@
 pub mod Decoded
+pub mod Frames
+pub mod Fronts
 pub mod Held
 pub mod Knowing
 pub mod Parts
 pub mod Shapes
+pub mod Stacks
 pub mod States
 pub mod Texts

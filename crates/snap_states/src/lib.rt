@@ -2,6 +2,8 @@
 #![tactic(auto)]
 
 mod constants;
+mod frames;
+mod jumps;
 mod keys;
 mod kinds;
 mod known;
@@ -10,9 +12,13 @@ mod objects;
 mod owners;
 mod registered;
 mod room;
+mod shapes;
+mod slot;
+mod slots;
 mod texts;
 mod values;
 
+pub use frames::are_fine_frames;
 pub use known::Known;
 pub use objects::are_fine_objects;
 pub use registered::are_registered_parts;
