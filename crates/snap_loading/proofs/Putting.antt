@@ -1,10 +1,10 @@
 -- Objects that are put into the place of an object, one behind the other.
-use Rattle.std.proofs.Common.{◌≡◌, ℕ, zero, suc, ◌+◌, ◌-◌, ◌<◌, ◌≤◌, List, [], ◌∷◌, ◌++◌, length, map, take, replicate, set, Option, Some, None, slice_get, refl, sym, ap, ap₂, ◌∙◌, subst, arith, append_assoc, length-append, get_or-set_same}
+use Rattle.std.proofs.Common.{◌≡◌, ℕ, zero, suc, ◌-◌, ◌<◌, ◌≤◌, List, [], ◌∷◌, ◌++◌, length, map, take, replicate, Option, Some, None, slice_get, refl, sym, ap, ◌∙◌, arith, append_assoc, get_or-set_same}
 use Rattle.std.specs.Prelude.{slice_set}
 use Rattle.std.specs.List.{insert}
-use Rattle.std.proofs.lemmas.List.{set-get_or, set-set, set-append_right, length-map}
+use Rattle.std.proofs.lemmas.List.{set-get_or, set-set, set-append_right}
 use Rattle.std.proofs.lemmas.List.Edits.{insert_end}
-use Rattle.mpy_base.specs.World.{Heap, Later, ListObject, TupleObject, DictObject, ObjectKind, AList, ATuple, ADict, IsA, object, kind_of, items_of, items_at, pairs_of, pairs_at, room_of, room_at, with_object, with_list, with_tuple, with_dict}
+use Rattle.mpy_base.specs.World.{Heap, Later, ListObject, TupleObject, DictObject, ObjectKind, object, kind_of, items_of, items_at, pairs_of, pairs_at, room_of, with_object, with_list, with_tuple, with_dict}
 use Rattle.mpy_base.proofs.Worlds.{is_within, later_set}
 use Rattle.arena_heap.specs.declared.value.Value.{Value}
 use Rattle.arena_heap.specs.declared.value.Value.TheVariants as values
