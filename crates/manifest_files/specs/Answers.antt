@@ -20,6 +20,17 @@ is_read_fault (Deep name) = false
 is_read_fault TooMany = false
 is_read_fault (ReadFault name) = true
 
+-- where a read failed outside, this is so of the name of the file
+abbrev pub OfRead : (List ℕ → Type 0) → ManifestFault → Type 0
+OfRead Read (BadCall name line) = Unit {0}
+OfRead Read (Loop name) = Unit {0}
+OfRead Read (Twice name) = Unit {0}
+OfRead Read (Absent name) = Unit {0}
+OfRead Read (Required name) = Unit {0}
+OfRead Read (Deep name) = Unit {0}
+OfRead Read TooMany = Unit {0}
+OfRead Read (ReadFault name) = Read name
+
 -- whether a read failed outside
 abbrev pub is_outside : Refused ManifestFault → Bool
 is_outside (refused.Fault fault) = is_read_fault fault

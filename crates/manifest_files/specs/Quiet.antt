@@ -1,5 +1,5 @@
 -- Manifests that say nothing, whichever are open, and those that include one another.
-use Rattle.std.specs.Prelude.{◌≡◌, ℕ, zero, suc, true, List, [], ◌∷◌, All, Contains, Some, Vec}
+use Rattle.std.specs.Prelude.{◌≡◌, ◌⊎◌, ℕ, zero, suc, true, List, [], ◌∷◌, ◌++◌, All, Contains, Some, Vec}
 use Rattle.std.specs.declared.alloc.Global.{Global}
 use Rattle.mpy_io.specs.Files.{FileOf}
 use Rattle.manifest_lines.specs.declared.manifest.Line.{Line}
@@ -29,6 +29,14 @@ IncludesOver files (suc between) outer inner = (middle : List ℕ) × IncludesOv
 -- each manifest that is open includes that of the name, straight or over others
 abbrev pub AllInclude : FileOf → (opened : List (List ℕ)) → (name : List ℕ) → Type 0
 AllInclude files opened name = (other : List ℕ) → is_open opened other ≡ true → (between : ℕ) × IncludesOver files between other name
+
+-- the other manifest is that of the name, or one that it includes, straight or over others
+abbrev pub IsOfTree : FileOf → (name other : List ℕ) → Type 0
+IsOfTree files name other = (other ≡ name) ⊎ ((between : ℕ) × IncludesOver files between name other)
+
+-- it is that of the name, which is opened behind these, or each of these and it include it
+abbrev pub IsReadIn : FileOf → (opened : List (List ℕ)) → (name other : List ℕ) → Type 0
+IsReadIn files opened name other = (other ≡ name) ⊎ AllInclude files (opened ++ name ∷ []) other
 
 -- so it is with the manifest that a line includes, if it does
 abbrev pub LeadsOn : FileOf → (opened : List (List ℕ)) → (name : List ℕ) → Line → Type 0

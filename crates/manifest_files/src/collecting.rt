@@ -1,13 +1,14 @@
 //! The entries of a manifest.
 
-ghost use Rattle.std.specs.Prelude.{◌≡◌, ℕ, All, ◌<◌, ◌≤◌, List, Ok, Err, OnOk, IfOk, IfSome, IsUtf8, true, false};
+ghost use Rattle.std.specs.Prelude.{◌≡◌, ℕ, All, ◌<◌, ◌≤◌, List, Ok, Err, OnOk, IfErr, IfOk, IfSome, IsUtf8, true, false};
 ghost use Rattle.mpy_base.specs.declared.refused.Refused.TheVariants as refused;
 ghost use Rattle.mpy_io.specs.Count.{Counts};
 ghost use Rattle.mpy_io.specs.Files.{FileOf};
 ghost use Rattle.manifest_files.specs.declared.fault.ManifestFault.{ManifestFault as Fault};
-ghost use Rattle.manifest_files.specs.Answers.{Tells, is_failed, is_read_fault};
+ghost use Rattle.manifest_files.specs.Answers.{OfRead, Tells, is_failed, is_read_fault};
+ghost use Rattle.manifest_files.specs.FrozenFaults.{FaultIs};
 ghost use Rattle.manifest_files.specs.Plain.{IsPlain};
-ghost use Rattle.manifest_files.specs.Quiet.{AllInclude, LeadsOn, AreQuiet};
+ghost use Rattle.manifest_files.specs.Quiet.{AllInclude, AreQuiet, IsOfTree, IsReadIn, LeadsOn};
 ghost use Rattle.manifest_files.specs.Entries.{Answer, Says, LineSays, AreSaid, AreEntries, IsAnswer, IsFault};
 
 use crate::fault::ManifestFault;
@@ -55,6 +56,7 @@ fn one_line<F: Folder>(
     ensures kept { OnOk result (IfSome (F.files folder.old) (λ files. AreQuiet files quiet.new.entries)) }
     ensures same { F.files folder.new ≡ F.files folder.old }
     ensures cause { Counts (F.count folder.old) (F.count folder.new) (is_failed result) }
+    ensures reads { IfErr result (FaultIs (OfRead (λ other. IfSome (F.files folder.old) (λ files. AllInclude files opened.old.items other)))) }
     ensures plain { All IsPlain entries.old.items → OnOk result (All IsPlain entries.new.items) }
 {
     match follow(alloc, opened, name, line, entries) {
@@ -84,6 +86,7 @@ fn all_lines<F: Folder>(
     ensures kept { OnOk result (IfSome (F.files folder.old) (λ files. AreQuiet files quiet.new.entries)) }
     ensures same { F.files folder.new ≡ F.files folder.old }
     ensures cause { Counts (F.count folder.old) (F.count folder.new) (is_failed result) }
+    ensures reads { IfErr result (FaultIs (OfRead (λ other. IfSome (F.files folder.old) (λ files. AllInclude files opened.old.items other)))) }
     ensures plain { All IsPlain entries.old.items → OnOk result (All IsPlain entries.new.items) }
 {
     for line in lines {
@@ -114,6 +117,7 @@ fn once<F: Folder>(
     ensures kept { OnOk result (IfSome (F.files folder.old) (λ files. AreQuiet files quiet.new.entries)) }
     ensures same { F.files folder.new ≡ F.files folder.old }
     ensures cause { Counts (F.count folder.old) (F.count folder.new) (is_failed result) }
+    ensures reads { IfErr result (FaultIs (OfRead (λ other. IfSome (F.files folder.old) (λ files. IsReadIn files opened.old.items name.now other)))) }
     ensures plain { All IsPlain entries.old.items → OnOk result (All IsPlain entries.new.items) }
 {
     if is_known(quiet, left, name.as_bytes()) {
@@ -150,6 +154,7 @@ fn manifest<F: Folder>(
     ensures kept { OnOk result (IfSome (F.files folder.old) (λ files. AreQuiet files quiet.new.entries)) }
     ensures same { F.files folder.new ≡ F.files folder.old }
     ensures cause { Counts (F.count folder.old) (F.count folder.new) (is_failed result) }
+    ensures reads { IfErr result (FaultIs (OfRead (λ other. IfSome (F.files folder.old) (λ files. IsReadIn files opened.old.items name.now other)))) }
     ensures plain { All IsPlain entries.old.items → OnOk result (All IsPlain entries.new.items) }
 {
     let this = Text::new(alloc, name.as_bytes())?;
@@ -191,6 +196,9 @@ pub fn collect<F: Folder>(
         → is_read_fault fault ≡ false → IsFault files name.now fault) }
     ensures same { F.files folder.new ≡ F.files folder.old }
     ensures cause { Counts (F.count folder.old) (F.count folder.new) (is_failed result) }
+
+    // A read that failed was of this manifest, or of one that it includes, straight or over others.
+    ensures reads { IfErr result (FaultIs (OfRead (λ other. IfSome (F.files folder.old) (λ files. IsOfTree files name.now other)))) }
 
     // The names of an entry are ASCII, its path is a text, and its level is one of the four.
     ensures plain { IfOk result (λ entries. All IsPlain entries.items) }

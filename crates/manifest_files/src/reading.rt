@@ -1,8 +1,9 @@
 //! The lines of a manifest in a folder.
 
-ghost use Rattle.std.specs.Prelude.{◌≡◌, [], ◌∷◌, IfOk, IfSome};
+ghost use Rattle.std.specs.Prelude.{◌≡◌, [], ◌∷◌, IfErr, IfOk, IfSome};
 ghost use Rattle.mpy_io.specs.Count.{Counts};
-ghost use Rattle.manifest_files.specs.Answers.{LinesOf, is_failed};
+ghost use Rattle.manifest_files.specs.Answers.{LinesOf, OfRead, is_failed};
+ghost use Rattle.manifest_files.specs.FrozenFaults.{FaultIs};
 ghost use Rattle.manifest_files.specs.Entries as spec;
 
 use crate::fault::ManifestFault;
@@ -44,6 +45,7 @@ pub(crate) fn read_lines<F: Folder>(
     ensures lines { IfSome (F.files folder.old) (λ files. LinesOf (files name.now) name.now result) }
     ensures same { F.files folder.new ≡ F.files folder.old }
     ensures cause { Counts (F.count folder.old) (F.count folder.new) (is_failed result) }
+    ensures reads { IfErr result (FaultIs (OfRead (λ other. other ≡ name.now))) }
 {
     let manifest = Text::new(alloc, name.as_bytes())?;
     match folder.read(alloc, name) {

@@ -1,10 +1,11 @@
-use Rattle.std.proofs.Common.{◌≡◌, ℕ, List, Option, Some, Err, Ok, arith, rules, subst, sym, ◌∙◌}
+use Rattle.std.proofs.Common.{◌≡◌, ℕ, List, Option, Some, Err, IfSome, Ok, arith, refl, rules, subst, sym, ◌∙◌}
 use Rattle.mpy_base.specs.declared.refused.Refused.TheVariants as refused
 use Rattle.mpy_io.specs.Files.{FileOf}
 use Rattle.manifest_files.specs.declared.fault.ManifestFault.TheVariants.{Deep}
 use Rattle.manifest_files.specs.Answers.{Follows, LinesOf, Tells}
 use Rattle.manifest_files.specs.Entries.{Says, LineSays, line_saying}
-use Rattle.manifest_files.specs.Quiet.{AreQuiet, IsQuiet}
+use Rattle.manifest_files.specs.Quiet.{AllInclude, AreQuiet, IsQuiet}
+use Rattle.manifest_files.proofs.FailedReads.{behind_read, inside, itself_read, line_read, lines_read}
 use Rattle.manifest_files.proofs.Passing.{here_too, lines_lead, line_leads, inner_leads, passed_over, kept_now}
 use Rattle.manifest_files.proofs.Tells.{if_some, if_some_both, refuses, too_deep, unread, line_gave_up, line_went_on, lines_told, whole_told}
 use Rattle.manifest_files.proofs.collecting.+manifest.Goals as goal
@@ -137,3 +138,32 @@ one_line-once-requires g t c κs within_lives =
         ),
       ),
     )
+
+-- ---- the manifest whose read failed
+
+pub one_line-returns-in-Err-clause-reads : goal.one_line-returns-in-Err-clause-reads
+one_line-returns-in-Err-clause-reads g t c =
+    inside (λ other. IfSome (g.F.Folder.files c.args.folder.now) (λ (files : FileOf). AllInclude files c.args.opened.now.items other)) c.in-Err.refused c.in-Err.ensures.inside
+
+pub one_line-returns-in-Ok-Some-clause-reads : goal.one_line-returns-in-Ok-Some-clause-reads
+one_line-returns-in-Ok-Some-clause-reads g t c =
+    let these : c.deref.result.now ≡ c.args.opened.now.items = first_of (cc, search rules) in
+    let some : c.in-Ok-Some.field-0 ≡ Some c.in-Ok-Some.inner = first_of (cc, search rules) in
+    let said = subst (λ (z : Option (List ℕ)). Follows c.args.entries.now.items (line_saying c.deref.result.now c.args.name.now c.args.line.now) (Ok z) c.follow.new.entries.items) some c.in-Ok-Some.ensures.said in
+    line_read (g.F.Folder.files c.args.folder.now) c.args.opened.now.items c.args.opened.now.items c.text_of.result.now c.once.result refl
+    (inner_leads (g.F.Folder.files c.args.folder.now) c.args.opened.now.items c.deref.result.now c.args.name.now c.args.line.now c.args.entries.now.items c.follow.new.entries.items c.in-Ok-Some.inner c.text_of.result.now
+    these c.text_of.ensures said c.requires.1.1.1.1.1) c.once.ensures.reads
+
+pub all_lines-returns-in-Err-clause-reads : goal.all_lines-returns-in-Err-clause-reads
+all_lines-returns-in-Err-clause-reads g t c =
+    lines_read (g.F.Folder.files c.args.folder.now) (g.F.Folder.files c.loop-line.folder) c.args.opened.now.items c.loop-line.opened.items c.in-Err.refused
+    c.loop-line.invariant.same c.loop-line.invariant.opened c.in-Err.ensures.reads
+
+pub manifest-returns-in-Err-clause-reads : goal.manifest-returns-in-Err-clause-reads
+manifest-returns-in-Err-clause-reads g t c =
+    itself_read (g.F.Folder.files c.args.folder.now) c.args.opened.now.items c.args.name.now c.in-Err.refused c.in-Err.ensures.reads
+
+pub manifest-returns-in-Err-all_lines-clause-reads : goal.manifest-returns-in-Err-all_lines-clause-reads
+manifest-returns-in-Err-all_lines-clause-reads g t c =
+    behind_read (g.F.Folder.files c.args.folder.now) (g.F.Folder.files c.read_lines.new.folder) c.args.opened.now.items c.push.new.self.items c.args.name.now c.in_ok-this.this c.in-Err-all_lines.refused
+    c.read_lines.ensures.same c.in_ok-push.ensures.items (c.in_ok-this.ensures ∙ c.as_bytes.ensures.value) c.in-Err-all_lines.ensures.reads
