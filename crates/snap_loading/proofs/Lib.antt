@@ -1,11 +1,14 @@
 mod Bridging
 pub mod Counting
+pub mod Counted
 pub mod Filled
 pub mod Finding
 pub mod Hollowing
 pub mod Knowing
 pub mod Lying
 pub mod Mixing
+pub mod Numbered
+pub mod Numbering
 pub mod Putting
 mod Registering
 mod Returning

@@ -1,6 +1,8 @@
 //! The machine of a snapshot.
 #![tactic(auto)]
 
+mod lookup;
+mod names;
 mod safe;
 mod shown;
 
