@@ -1,11 +1,12 @@
-"""Random codes for the verifier: about half are verified, the others have a fault at any place, some in a later round of a loop."""
+"""Random codes for the verifier: about half are verified, the others have a fault at any place, some in a later round of a loop. They are
+small, since a reference takes its time over large ones."""
 from hostile import CODES, Code, file_of
 
 CODES.update(LOAD_FAST_0=0xB0, LOAD_FAST_3=0xB3, STORE_FAST_0=0xC0, LOAD_NULL=0x53, LOAD_METHOD=0x14, CALL_METHOD=0x36, CALL_FUNCTION=0x34,
              STORE_SUBSCR=0x56, ROT_TWO=0x5A, ROT_THREE=0x5B, GET_ITER_STACK=0x5F, FOR_ITER=0x4B, UNWIND_JUMP=0x40, RAISE_OBJ=0x65,
              POP_JUMP_IF_FALSE=0x44, JUMP_IF_FALSE_OR_POP=0x46, BINARY_ADD=0xF2, BUILD_LIST=0x2B, LOAD_SUBSCR=0x55, STORE_MAP=0x62)
 NAME = 7  # of a static text: `print`
-MOST = 60  # slots that are open at once
+MOST = 12  # slots that are open at once
 EXCEPT, FINALLY = "SETUP_EXCEPT", "SETUP_FINALLY"
 
 # name: operand, slots that are taken, slots that are given, how often it is drawn
@@ -62,7 +63,8 @@ class RandomCode:
     def straight(self):
         fits = [name for name, (_, takes, _, _) in STRAIGHT.items() if takes <= self.room() or self.draw.random() < self.loose / 10]
         if self.height > MOST:
-            fits = [name for name in fits if STRAIGHT[name][2] <= STRAIGHT[name][1]]
+            fits = [name for name in fits if STRAIGHT[name][2] <= STRAIGHT[name][1]] or fits
+        fits = fits or ["LOAD_CONST_NONE"]  # where there are fewer slots than the innermost entry keeps
         name = self.draw.choices(fits, [STRAIGHT[it][3] for it in fits])[0]
         operand, takes, gives, _ = STRAIGHT[name]
         self.code.op(name) if operand is None else self.code.num(name, operand)
@@ -137,11 +139,11 @@ class RandomCode:
     def finish(self):
         """Ends what is open, and puts the labels that are still wanted behind it."""
         while self.entries:
+            _, _, height, active = self.entries[-1]
+            if active:
+                self.code.op(*["POP_TOP"] * (self.height - height - 1), *["LOAD_CONST_NONE"] * (height + 1 - self.height))
+                self.height = height + 1
             self.end()
-            if self.entries and self.entries[-1][3]:
-                while self.height > self.entries[-1][2] + 1:
-                    self.code.op("POP_TOP")
-                    self.height -= 1
         self.code.op("LOAD_CONST_NONE", "RETURN_VALUE")
         for (height, entries), labels in self.ahead.items():
             for label in labels:
@@ -156,7 +158,7 @@ class RandomCode:
 def random_file(draw):
     """Returns the bytes of a file of one random code."""
     it = RandomCode(draw)
-    for _ in range(draw.choice([8, 15, 30, 60, 120, 300])):
+    for _ in range(draw.choice([8, 15, 30, 60, 90])):
         it.step()
     small = bytes([draw.choice([3, 7, 15]) << 3 | 4])
     return file_of(it.finish(), small if draw.random() < 0.2 else None)
