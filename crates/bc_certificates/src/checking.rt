@@ -53,7 +53,7 @@ fn row_in(rows: &[Option<Row>], p: usize) -> Option<&Row>
 }
 
 /// The row of a position, if it has one.
-fn row_at(table: &Table, p: usize) -> Option<&Row>
+pub fn row_at(table: &Table, p: usize) -> Option<&Row>
     ensures { row (rows_of table.now) p ≡ option_map (λ r. at_row table.now.bases.items r.now) result }
 {
     row_in(&table.rows, p)
@@ -83,7 +83,7 @@ fn put_on(x: &mut Shape, base: &Shape, slots: usize, entries: usize) -> Result<(
 }
 
 /// Makes the shape what the row says.
-fn copy_row(table: &Table, row: &Row, x: &mut Shape) -> Result<(), NoMemory>
+pub fn copy_row(table: &Table, row: &Row, x: &mut Shape) -> Result<(), NoMemory>
     ensures { OnOk result (at_of x.new ≡ at_row table.now.bases.items row.now) }
 {
     copy(x, &row.top)?;
@@ -246,7 +246,7 @@ fn falls_to(table: &Table, edge: Edge, seen: &mut Seen) -> Result<bool, NoMemory
 }
 
 /// What the instruction at a position does.
-fn action_in(code: &Code, p: usize) -> Action
+pub fn action_in(code: &Code, p: usize) -> Action
     requires { p < length code.now.items.items }
     ensures { slice_get (code_of code.now).actions p ≡ Some (action_of result) }
 {

@@ -9,13 +9,14 @@ mod blocks;
 mod certificate;
 mod checking;
 mod groups;
+mod obeying;
 mod passing;
 mod searching;
 mod sharing;
 mod walking;
 
 pub use certificate::{Row, Table};
-pub use checking::check;
+pub use checking::{action_in, check, copy_row, row_at};
 pub use searching::{certified, search};
 
 /// Code with a certificate is verified: what its rows carry meets the rules along every edge.

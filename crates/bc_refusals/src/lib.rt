@@ -1,0 +1,13 @@
+//! First faults of codes that aren't verified, by rows that a walk over their blocks found.
+#![tactic(auto)]
+
+mod agreeing;
+mod arriving;
+mod judging;
+mod opening;
+mod order;
+mod refusing;
+mod walk;
+
+pub use judging::{Judgement, judge};
+pub use walk::fault_by;
