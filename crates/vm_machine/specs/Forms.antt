@@ -16,6 +16,8 @@ use Rattle.state_steps.specs.Leaves.{LeavesCall}
 use Rattle.state_steps.specs.Values.{ActsOnValues, value_visits}
 use Rattle.vm_machine.specs.declared.forms.Form.{Form}
 use Rattle.vm_machine.specs.declared.forms.Form.TheVariants as forms
+use Rattle.vm_machine.specs.declared.forms.Work.{Work}
+use Rattle.vm_machine.specs.declared.forms.Work.TheVariants as works
 
 -- the instruction has the form
 abbrev pub HasForm : Instruction → Form → Type 0
@@ -25,19 +27,14 @@ HasForm i forms.Finishes = i ≡ fetched.Plain plain_ops.EndFinally
 HasForm i (forms.Makes number) = i ≡ fetched.Number number_ops.MakeFunction number
 HasForm i (forms.MakesWith number) = i ≡ fetched.Number number_ops.MakeFunctionDefargs number
 HasForm i (forms.Imports name) = i ≡ fetched.Name name_ops.ImportName (strs.Pool name)
-HasForm i (forms.Calls op number) = (i ≡ fetched.Number op number) × CallsValue op
-
--- the instruction makes no call
-abbrev pub IsNoCall : Form → Type 0
-IsNoCall forms.Operates = Unit {0}
-IsNoCall (forms.Leaves op) = Unit {0}
-IsNoCall forms.Finishes = Unit {0}
-IsNoCall (forms.Makes number) = Unit {0}
-IsNoCall (forms.MakesWith number) = Unit {0}
-IsNoCall (forms.Imports name) = Unit {0}
-IsNoCall (forms.Calls op number) = ⊥
 
 -- if it is no call, it makes no visits, whatever it runs over
 abbrev pub MakesNoVisits : Instruction → Type 0
 MakesNoVisits i = (texts : StrNo → Option (List ℕ)) (tuples : ConstNo → Option (List Value)) (heap : Heap Value ℕ) (calls : List Call)
     → value_visits texts tuples heap calls i ≡ 0
+
+-- the instruction takes this: it is carried out by its form and makes no visits, or it is an operator over two operands, or a call
+abbrev pub IsWork : Instruction → Work → Type 0
+IsWork i (works.Acts form) = HasForm i form × MakesNoVisits i
+IsWork i (works.Binary number) = i ≡ fetched.Binary number
+IsWork i (works.Calls op number) = (i ≡ fetched.Number op number) × CallsValue op

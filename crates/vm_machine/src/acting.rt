@@ -9,20 +9,20 @@ ghost use Rattle.vm_kept.specs.state_exits.Importing.{fetched_import};
 ghost use Rattle.vm_kept.specs.state_exits.Running.{fetched_plain};
 ghost use Rattle.state_steps.specs.Leaves.{LeavesCall};
 ghost use Rattle.state_steps.specs.Values.{ActsOnValues, value_visits};
-ghost use Rattle.vm_machine.specs.Acting.{Acted, HasFetched};
-ghost use Rattle.vm_machine.specs.Forms.{HasForm, IsNoCall};
+ghost use Rattle.vm_machine.specs.Acting.{Acted, HasFetched, Stepped};
+ghost use Rattle.vm_machine.specs.Forms.{HasForm, MakesNoVisits};
 
 use crate::forms::Form;
 use arena_heap::StrNo;
 use bc_library::Library;
 use state_steps::{finish, import, leave, make, make_with, operate};
 use vm_at_once::{Fetched, PlainOp, Row, Rows};
-use vm_kept::cause_law;
+use vm_kept::{cause_law, step_law};
 use vm_starting::{NAME, Vm};
 
 /// Carries out an instruction on values.
 #[tactic(none)]
-fn operate_on(vm: &mut Vm, library: &Library, row: &Row<'_>, fetched: Fetched)
+pub(crate) fn operate_on(vm: &mut Vm, library: &Library, row: &Row<'_>, fetched: Fetched)
     requires values { ActsOnValues fetched.instruction }
     requires fetched { HasFetched library.now vm.old row.now fetched }
     ensures { Acted library.now (value_visits (text_at library.now) (items_at library.now) vm.old.arena vm.old.frames.calls fetched.instruction) vm.old vm.new }
@@ -157,17 +157,9 @@ fn import_on(vm: &mut Vm, library: &Library, rows: &Rows<'_>, row: &Row<'_>, nam
     vm.end = ended;
 }
 
-/// The instruction of this form that was fetched, which is no call, where its visits are paid. It takes no memory.
-pub(crate) fn act(
-    vm: &mut Vm,
-    library: &Library,
-    rows: &Rows<'_>,
-    row: &Row<'_>,
-    fetched: Fetched,
-    form: Form,
-)
+/// The instruction of this form that was fetched. It takes no memory.
+fn act(vm: &mut Vm, library: &Library, rows: &Rows<'_>, row: &Row<'_>, fetched: Fetched, form: Form)
     requires form { HasForm fetched.instruction form }
-    requires no_call { IsNoCall form }
     requires fetched { HasFetched library.now vm.old row.now fetched }
     requires rows { rows.now ≡ library.now }
     ensures { Acted library.now (value_visits (text_at library.now) (items_at library.now) vm.old.arena vm.old.frames.calls fetched.instruction) vm.old vm.new }
@@ -180,6 +172,27 @@ pub(crate) fn act(
         Form::Makes(number) => make_on(vm, library, rows, row, number, end),
         Form::MakesWith(number) => make_with_on(vm, library, rows, row, number, end),
         Form::Imports(name) => import_on(vm, library, rows, row, name, end),
-        Form::Calls(_, _) => unreachable!(),
     }
+}
+
+/// The step of an instruction of this form, which makes no visits.
+#[tactic(none)]
+pub(crate) fn step_act(
+    vm: &mut Vm,
+    library: &Library,
+    rows: &Rows<'_>,
+    row: &Row<'_>,
+    fetched: Fetched,
+    form: Form,
+)
+    requires form { HasForm fetched.instruction form }
+    requires no_visits { MakesNoVisits fetched.instruction }
+    requires fetched { HasFetched library.now vm.old row.now fetched }
+    requires rows { rows.now ≡ library.now }
+    ensures stepped { Stepped library.now 1 vm.old vm.new }
+    ensures unpaid { vm.new.paid ≡ 0 }
+{
+    step_law();
+    act(vm, library, rows, row, fetched, form);
+    vm.paid = 0;
 }

@@ -6,9 +6,9 @@ ghost use Rattle.vm_starting.specs.Kept.{AreFetched};
 ghost use Rattle.vm_machine.specs.Acting.{AreFetchedIn, HasFetched, Stepped};
 ghost use Rattle.vm_machine.specs.Machine.{IsVm};
 
-use crate::acting::act;
+use crate::acting::step_act;
 use crate::fetching::{fetch_in, fetch_kept, row_of};
-use crate::forms::unpaid_form;
+use crate::forms::{Work, work_of};
 use bc_library::Library;
 use vm_at_once::{Fetched, Rows, act_at_once, store_at_once};
 use vm_kept::{registered_law, step_law};
@@ -24,15 +24,14 @@ fn act_unpaid(vm: &mut Vm, library: &Library, rows: &Rows<'_>, fetched: Fetched)
     ensures unpaid { vm.new.paid ≡ 0 }
     ensures few { result ≤ 1 }
 {
-    step_law();
-    match unpaid_form(fetched.instruction) {
-        Some(form) => {
+    match work_of(fetched.instruction) {
+        Work::Acts(form) => {
             let row = row_of(vm, library, rows, fetched);
-            act(vm, library, rows, row, fetched, form);
-            vm.paid = 0;
+            step_act(vm, library, rows, row, fetched, form);
             1
         }
-        None => 0,
+        Work::Binary(_number) => 0,
+        Work::Calls(_op, _number) => 0,
     }
 }
 

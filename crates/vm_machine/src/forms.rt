@@ -1,16 +1,16 @@
 //! Instructions by what carries them out.
 
-ghost use Rattle.std.specs.Prelude.{◌≡◌, ℕ, false, IfSome, IfNone};
+ghost use Rattle.std.specs.Prelude.{◌≡◌, ℕ};
 ghost use Rattle.state_steps.specs.prim_faults.arena_heap.declared.value.StrNo.TheVariants as strs;
 ghost use Rattle.bc_library.specs.Shelf.{Shelf};
 ghost use Rattle.vm_kept.specs.state_calls.vm_fetching.declared.instruction.Instruction.TheVariants as fetched;
 ghost use Rattle.vm_kept.specs.state_calls.vm_fetching.Shows.{TextIsThere};
-ghost use Rattle.vm_machine.specs.Forms.{HasForm, IsNoCall, MakesNoVisits};
+ghost use Rattle.vm_machine.specs.Forms.{HasForm, IsWork};
 
 use arena_heap::StrNo;
 use vm_at_once::{Instruction, NameOp, NumberOp, PlainOp};
 
-/// What carries out an instruction.
+/// What carries out an instruction that is no call.
 #[derive(Clone, Copy, Debug, PartialEq, Eq)]
 pub(crate) enum Form {
     Operates,
@@ -23,7 +23,16 @@ pub(crate) enum Form {
     MakesWith(u32),
     /// An import of the module whose name has the number.
     Imports(u32),
-    /// A call, with what its number says of the operands.
+}
+
+/// What an instruction takes.
+#[derive(Clone, Copy, Debug, PartialEq, Eq)]
+pub(crate) enum Work {
+    /// It is carried out by its form, and makes no visits.
+    Acts(Form),
+    /// An operator over two operands, by its number. Its visits are paid first.
+    Binary(u8),
+    /// A call, with what its number says of the operands. Its visits are paid first.
     Calls(NumberOp, u32),
 }
 
@@ -50,14 +59,14 @@ fn plain_form(op: PlainOp) -> Form
     }
 }
 
-/// The form of an operation with a number.
-fn number_form(op: NumberOp, number: u32) -> Form
-    ensures { HasForm (fetched.Number op number) result }
+/// What an operation with a number takes.
+fn number_work(op: NumberOp, number: u32) -> Work
+    ensures { IsWork (fetched.Number op number) result }
 {
     match op {
-        NumberOp::MakeFunction => Form::Makes(number),
-        NumberOp::MakeFunctionDefargs => Form::MakesWith(number),
-        NumberOp::CallFunction | NumberOp::CallMethod => Form::Calls(op, number),
+        NumberOp::MakeFunction => Work::Acts(Form::Makes(number)),
+        NumberOp::MakeFunctionDefargs => Work::Acts(Form::MakesWith(number)),
+        NumberOp::CallFunction | NumberOp::CallMethod => Work::Calls(op, number),
         NumberOp::LoadFast
         | NumberOp::LoadFastN
         | NumberOp::StoreFast
@@ -66,7 +75,7 @@ fn number_form(op: NumberOp, number: u32) -> Form
         | NumberOp::BuildTuple
         | NumberOp::BuildList
         | NumberOp::BuildMap
-        | NumberOp::UnpackSequence => Form::Operates,
+        | NumberOp::UnpackSequence => Work::Acts(Form::Operates),
     }
 }
 
@@ -102,72 +111,21 @@ fn name_form(op: NameOp, text: StrNo) -> Form
     }
 }
 
-/// The form of an instruction, whose text is one of the pool.
-pub(crate) fn form_of(instruction: Instruction) -> Form
+/// What an instruction takes, whose text is one of the pool.
+#[inline(always)]
+pub(crate) fn work_of(instruction: Instruction) -> Work
     requires { (shelf : Shelf) × TextIsThere shelf instruction }
-    ensures { HasForm instruction result }
+    ensures { IsWork instruction result }
 {
     match instruction {
-        Instruction::Plain(op) => plain_form(op),
-        Instruction::Number(op, number) => number_form(op, number),
-        Instruction::Name(op, text) => name_form(op, text),
+        Instruction::Plain(op) => Work::Acts(plain_form(op)),
+        Instruction::Number(op, number) => number_work(op, number),
+        Instruction::Name(op, text) => Work::Acts(name_form(op, text)),
+        Instruction::Binary(number) => Work::Binary(number),
         Instruction::Int(_)
         | Instruction::Unary(_)
-        | Instruction::Binary(_)
         | Instruction::Object(_)
         | Instruction::Jump(_, _)
-        | Instruction::Unwind { .. } => Form::Operates,
-    }
-}
-
-/// The operation of a call, and what its number says of the operands.
-pub(crate) fn call_in(form: Form) -> Option<(NumberOp, u32)>
-    ensures some { IfSome result (λ call. form ≡ Form.Calls call.0 call.1) }
-    ensures none { IfNone result (IsNoCall form) }
-{
-    match form {
-        Form::Calls(op, number) => Some((op, number)),
-        Form::Operates
-        | Form::Leaves(_)
-        | Form::Finishes
-        | Form::Makes(_)
-        | Form::MakesWith(_)
-        | Form::Imports(_) => None,
-    }
-}
-
-/// Whether it is an operator over two operands, which may make visits.
-#[inline(always)]
-fn is_binary(instruction: Instruction) -> bool
-    ensures { result ≡ false → MakesNoVisits instruction }
-{
-    match instruction {
-        Instruction::Binary(_) => true,
-        Instruction::Plain(_)
-        | Instruction::Number(_, _)
-        | Instruction::Int(_)
-        | Instruction::Unary(_)
-        | Instruction::Name(_, _)
-        | Instruction::Object(_)
-        | Instruction::Jump(_, _)
-        | Instruction::Unwind { .. } => false,
-    }
-}
-
-/// The form of an instruction that is no call and makes no visits, whose text is one of the pool.
-#[inline(always)]
-pub(crate) fn unpaid_form(instruction: Instruction) -> Option<Form>
-    requires { (shelf : Shelf) × TextIsThere shelf instruction }
-    ensures form { IfSome result (HasForm instruction) }
-    ensures no_call { IfSome result IsNoCall }
-    ensures no_visits { IfSome result (λ form. MakesNoVisits instruction) }
-{
-    if is_binary(instruction) {
-        return None;
-    }
-    let form = form_of(instruction);
-    match call_in(form) {
-        Some(_call) => None,
-        None => Some(form),
+        | Instruction::Unwind { .. } => Work::Acts(Form::Operates),
     }
 }

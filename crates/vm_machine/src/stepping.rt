@@ -10,38 +10,34 @@ ghost use Rattle.vm_kept.specs.Kept.{HoldsKept};
 ghost use Rattle.vm_starting.specs.Programs.{IsProgramOf};
 ghost use Rattle.vm_starting.specs.Kept.{AreFetched};
 ghost use Rattle.vm_machine.specs.Acting.{Called, HasFetched, Stepped};
-ghost use Rattle.vm_machine.specs.Forms.{HasForm, IsNoCall};
 ghost use Rattle.vm_machine.specs.Machine.{IsVm};
 ghost use Rattle.vm_machine.specs.Running.{Advances};
 
-use crate::acting::act;
+use crate::acting::{operate_on, step_act};
 use crate::at_once::run_at_once;
 use crate::fetching::{fetch_kept, row_of};
-use crate::forms::{Form, call_in, form_of};
-use crate::paying::{steps_before, visits_of};
+use crate::forms::{Work, work_of};
+use crate::paying::steps_before;
 use bc_library::Library;
 use mpy_io::{Failed, Port, Sink};
 use port_set::PortSet;
 use state_steps::call;
-use vm_at_once::{Fetched, NumberOp, Row, Rows};
+use vm_at_once::{Fetched, NumberOp, Row, Rows, visits_binary_op};
 use vm_kept::{gives_law, methods_law, raises_law, step_law, take_call, visits_call_on};
 use vm_starting::{Cache, Invocation, Vm};
 
-/// Steps of an instruction of this form, which is no call.
+/// Steps of an operator over two operands, of which its visits take one each.
 #[tactic(none)]
-fn step_act(
+fn step_binary(
     vm: &mut Vm,
     library: &Library,
-    rows: &Rows<'_>,
     row: &Row<'_>,
     fetched: Fetched,
-    form: Form,
+    number: u8,
     most: u64,
 ) -> u64
-    requires form { HasForm fetched.instruction form }
-    requires no_call { IsNoCall form }
+    requires operator { fetched.instruction ≡ fetched_as.Binary number }
     requires fetched { HasFetched library.now vm.old row.now fetched }
-    requires rows { rows.now ≡ library.now }
     requires some { 0 < most }
     requires countable { vm.old.paid + most < 2 ^ 64 }
     ensures stepped { Stepped library.now result vm.old vm.new }
@@ -51,14 +47,14 @@ fn step_act(
     step_law();
     let paid = vm.paid;
     let bound = paid + most;
-    let due = visits_of(vm, library, row, fetched, bound);
+    let due = visits_binary_op(&vm.frames, &vm.arena, library, number, fetched.end, bound);
     match steps_before(paid, due, most) {
         None => {
             vm.paid = bound;
             most
         }
         Some(before) => {
-            act(vm, library, rows, row, fetched, form);
+            operate_on(vm, library, row, fetched);
             vm.paid = 0;
             let taken = before + 1;
             taken
@@ -190,9 +186,13 @@ fn step_on<S: Sink, P: Port>(
     ensures { Advances S.told S.count library.now vm.old vm.new
         (record { out = out.old; ports = map P.seen ports.old }) (record { out = out.new; ports = map P.seen ports.new }) most result }
 {
-    let form = form_of(fetched.instruction);
-    match call_in(form) {
-        Some((op, number)) => step_call(
+    match work_of(fetched.instruction) {
+        Work::Acts(form) => {
+            step_act(vm, library, rows, row, fetched, form);
+            Ok(1)
+        }
+        Work::Binary(number) => Ok(step_binary(vm, library, row, fetched, number, most)),
+        Work::Calls(op, number) => step_call(
             vm,
             library,
             rows,
@@ -204,7 +204,6 @@ fn step_on<S: Sink, P: Port>(
             fetched.end,
             most,
         ),
-        None => Ok(step_act(vm, library, rows, row, fetched, form, most)),
     }
 }
 

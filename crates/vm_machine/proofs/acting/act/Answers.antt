@@ -4,7 +4,7 @@ use Rattle.vm_kept.specs.state_calls.vm_fetching.declared.instruction.Instructio
 use Rattle.vm_kept.specs.state_calls.vm_fetching.declared.operations.NameOp.TheVariants as name_ops
 use Rattle.vm_kept.specs.state_calls.vm_fetching.declared.operations.NumberOp.TheVariants as number_ops
 use Rattle.vm_kept.specs.state_calls.vm_fetching.declared.operations.PlainOp.TheVariants as plain_ops
-use Rattle.vm_machine.specs.Forms.{HasForm, IsNoCall}
+use Rattle.vm_machine.specs.Forms.{HasForm}
 use Rattle.vm_machine.proofs.Fetched.{at_form, without_any}
 use Rattle.vm_machine.proofs.acting.act.Goals as goal
 
@@ -16,9 +16,6 @@ operate_on-requires-clause-fetched c = c.requires.fetched
 
 pub returns-in-Operates : goal.returns-in-Operates
 returns-in-Operates c = c.operate_on.ensures
-
-pub unreachable-requires : goal.unreachable-requires
-unreachable-requires c = subst IsNoCall c.in-Calls.is c.requires.no_call
 
 pub leave_on-requires-clause-leaves : goal.leave_on-requires-clause-leaves
 leave_on-requires-clause-leaves c = (subst (HasForm c.args.fetched.instruction) c.in-Leaves.is c.requires.form).1
