@@ -1,7 +1,5 @@
 use Rattle.std.proofs.Common.{◌+◌, refl, arith}
-use Rattle.std.specs.Prelude.{min}
 use Rattle.bc_library.specs.Constants.{items_at, text_at}
-use Rattle.state_steps.specs.Values.{value_visits}
 use Rattle.vm_machine.proofs.Fetched.{no_visits}
 use Rattle.vm_machine.proofs.Stepped.{carried_out}
 use Rattle.vm_machine.proofs.acting.step_act.Goals as goal
