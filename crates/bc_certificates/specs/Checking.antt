@@ -1,5 +1,6 @@
 -- What a check of rows finds out of one position.
-use Rattle.std.specs.Prelude.{◌≡◌, ℕ, zero, suc, true, false, ◌&&◌, ◌||◌, List, [], ◌∷◌, ◌++◌, ◌-◌, drop, length, map, Option, None, IfSome, nat_le, nat_lt, option_map, slice_get, Some, Bool, if◌then◌else◌}
+use Rattle.std.specs.Prelude.{◌≡◌, ℕ, zero, suc, true, false, ◌&&◌, ◌||◌, List, [], ◌∷◌, ◌++◌, ◌-◌, drop, length, map, Option}
+use Rattle.std.specs.Prelude.{None, IfSome, nat_le, nat_lt, option_map, slice_get, Some, Bool, if◌then◌else◌}
 use Rattle.bc_flow.specs.bc_shapes.declared.shape.Shape.{Shape}
 use Rattle.bc_flow.specs.bc_shapes.declared.shape.Entry.{Entry}
 use Rattle.bc_flow.specs.bc_shapes.Shape.{At, Under}

@@ -1,6 +1,7 @@
 //! Whether rows certify a code: each position is looked at once, from the first one on.
 
-ghost use Rattle.std.specs.Prelude.{◌≡◌, ◌+◌, ◌<◌, ◌≤◌, ◌^◌, ◌∷◌, [], ℕ, suc, List, Some, None, IfOk, OnOk, IfSome, length, map, option_map, slice_get, ◌&&◌, true};
+ghost use Rattle.std.specs.Prelude.{◌≡◌, ◌+◌, ◌<◌, ◌≤◌, ◌^◌, ◌∷◌, [], ℕ, suc, List, Some, None, IfOk, OnOk, IfSome, length, map};
+ghost use Rattle.std.specs.Prelude.{option_map, slice_get, ◌&&◌, true};
 ghost use Rattle.std.specs.Bool.{OnFalse, OnTrue};
 ghost use Rattle.bc_flow.specs.bc_shapes.Shape.{At, Under};
 ghost use Rattle.bc_flow.specs.bc_shapes.declared.shape.Shape.{Shape as SpecShape};

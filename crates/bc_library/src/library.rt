@@ -1,6 +1,8 @@
 //! Libraries.
 
-ghost use Rattle.std.specs.Prelude.{◌≡◌, ◌↔◌, ℕ, ◌^◌, ◌<◌, ◌≤◌, List, [], ◌∷◌, ◌++◌, length, All, Ok, Err, None, Some, IsSome, IsTrue, IfNone, IfOk, IfSome, IfErr, OnOk, OnErr, IsErrOf, position, map, option_copied, option_and_then, slice_get};
+ghost use Rattle.std.specs.Prelude.{◌≡◌, ◌↔◌, ℕ, ◌^◌, ◌<◌, ◌≤◌, List, [], ◌∷◌, ◌++◌, length, All, Ok, Err, None, Some, IsSome};
+ghost use Rattle.std.specs.Prelude.{IsTrue, IfNone, IfOk, IfSome, IfErr, OnOk, OnErr, IsErrOf, position, map, option_copied};
+ghost use Rattle.std.specs.Prelude.{option_and_then, slice_get};
 ghost use Rattle.std.specs.List.{list_any};
 ghost use Rattle.std.specs.Option.{option_map};
 ghost use Rattle.std.specs.Str.{bytes_eq};

@@ -1,6 +1,7 @@
 //! The walk in the order of first visits, which visits each position once.
 
-ghost use Rattle.std.specs.Prelude.{◌≡◌, ◌+◌, ◌<◌, ◌≤◌, ℕ, IfOk, IfSome, None, OnOk, Some, drop, false, if◌then◌else◌, length, map, replicate, set, slice_get, suc, true};
+ghost use Rattle.std.specs.Prelude.{◌≡◌, ◌+◌, ◌<◌, ◌≤◌, ℕ, IfOk, IfSome, None, OnOk, Some, drop, false, if◌then◌else◌, length};
+ghost use Rattle.std.specs.Prelude.{map, replicate, set, slice_get, suc, true};
 ghost use Rattle.std.specs.Bool.{OnFalse, OnTrue};
 ghost use Rattle.bc_flow.specs.bc_shapes.Views.{at_of};
 ghost use Rattle.bc_flow.specs.bc_shapes.Shape.{At};

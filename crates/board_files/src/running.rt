@@ -63,8 +63,10 @@ fn write_output<F: Folder>(
     requires rows { rows.now ≡ library.now }
     requires kept { AreFetched library.now cache.old }
     requires can_run { CanRun plan.now }
-    ensures written { OnOk result ((p : Program) → IsProgramOf library.now p → Written p plan.now board.old board.new (F.files folder.old) (F.files folder.new)) }
-    ensures stopped { IfErr result (λ stop. (p : Program) → IsProgramOf library.now p → HasStoppedIn p plan.now (cut_of stop) (F.files folder.old) (F.files folder.new)) }
+    ensures written { OnOk result ((p : Program) → IsProgramOf library.now p
+        → Written p plan.now board.old board.new (F.files folder.old) (F.files folder.new)) }
+    ensures stopped { IfErr result (λ stop. (p : Program) → IsProgramOf library.now p
+        → HasStoppedIn p plan.now (cut_of stop) (F.files folder.old) (F.files folder.new)) }
     ensures runs { AreRuns library.now board.new }
     ensures few { length board.new ≤ MAX_TASKS }
     ensures others { KeepsOthers (length plan.now.tasks) (F.files folder.old) (F.files folder.new) }
@@ -102,7 +104,8 @@ fn run_turns<F: Folder, S: Sink>(
     requires rows { rows.now ≡ library.now }
     requires kept { AreFetched library.now cache.old }
     requires can_run { CanRun plan.now }
-    ensures ran { OnOk result ((p : Program) → IsProgramOf library.now p → HasRunIn p plan.now (F.files folder.old) (F.files folder.new) (S.told out.old) (S.told out.new)) }
+    ensures ran { OnOk result ((p : Program) → IsProgramOf library.now p
+        → HasRunIn p plan.now (F.files folder.old) (F.files folder.new) (S.told out.old) (S.told out.new)) }
     ensures flushed { OnOk result (S.held out.new ≡ []) }
     ensures there { (name : List ℕ) → result ≡ Err (BoardStop.NoModule name) → ⊥ }
     ensures unwritten { (task : ℕ) → result ≡ Err (BoardStop.Unwritten task) → (task < length plan.now.tasks) × (out.new ≡ out.old) }
@@ -140,7 +143,8 @@ pub fn run_board<F: Folder, S: Sink>(
 ) -> Result<(), BoardStop>
     requires runnable { IsRunnable library.now }
     requires can_run { CanRun plan.now }
-    ensures ran { OnOk result ((p : Program) → IsProgramOf library.now p → HasRunIn p plan.now (F.files folder.old) (F.files folder.new) (S.told out.old) (S.told out.new)) }
+    ensures ran { OnOk result ((p : Program) → IsProgramOf library.now p
+        → HasRunIn p plan.now (F.files folder.old) (F.files folder.new) (S.told out.old) (S.told out.new)) }
     ensures flushed { OnOk result (S.held out.new ≡ []) }
 
     // A module is missing exactly where the library lacks or refuses it; then nothing was written.

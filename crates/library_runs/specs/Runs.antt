@@ -160,7 +160,9 @@ module _ (p : Program) (name : Name) (room : Room) (steps : ℕ) (ports : List P
 pub record StandsAt (shelf : Shelf) (name : Name) (room : Room) (steps : ℕ) (old new : Sight) (vm : Vm) : Type 0 where
   pub goes_on : vm.end ≡ None
   pub stands : (p : Program) → IsProgramOf shelf p → (ports : List PortState) (printed : List ℕ) → old.out ≡ Some printed → Tell old.ports ports
-      → ((after : PlainWorld) × (steps_of p.library steps (start p.library name (begins_in p name room steps ports printed)) ≡ machine_of p vm after)) ⊎ Strayed p name room steps ports printed old new
+      → ((after : PlainWorld)
+      × (steps_of p.library steps (start p.library name (begins_in p name room steps ports printed)) ≡ machine_of p vm after))
+      ⊎ Strayed p name room steps ports printed old new
 
 -- How a run of the library's module of this name ended, in this room and with this bound on its steps: so in each program of the
 -- library, of which there is one, where the sink told what was printed and the ports their contents.
@@ -213,4 +215,5 @@ pub record GoesOn (shelf : Shelf) (vm : Vm) (steps : ℕ) (old new : Sight) (end
 pub record StandsOn (shelf : Shelf) (vm : Vm) (steps : ℕ) (old new : Sight) (left : Vm) : Type 0 where
   pub goes_on : left.end ≡ None
   pub stands : (p : Program) → IsProgramOf shelf p → (ports : List PortState) (printed : List ℕ) → old.out ≡ Some printed → Tell old.ports ports
-      → ((after : PlainWorld) × (steps_of p.library steps (machine_of p vm (goes_in ports printed)) ≡ machine_of p left after)) ⊎ StrayedOn p vm steps ports printed old new
+      → ((after : PlainWorld) × (steps_of p.library steps (machine_of p vm (goes_in ports printed)) ≡ machine_of p left after))
+      ⊎ StrayedOn p vm steps ports printed old new

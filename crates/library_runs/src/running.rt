@@ -95,7 +95,8 @@ pub fn run_for<S: Sink, P: Port, E: Sink>(
 
     // The machine stands where the run stopped; there is one exactly where it was stopped by its steps.
     ensures leaves { (n : Named) → slice_get library.now.modules main ≡ Some n → MatchOption result.1 (result.0 ≢ End.Limit)
-        (λ vm. (result.0 ≡ End.Limit) × StandsAt library.now n.name room steps (sight S.told P.seen out.old ports.old) (sight S.told P.seen out.new ports.new) vm) }
+        (λ vm. (result.0 ≡ End.Limit)
+        × StandsAt library.now n.name room steps (sight S.told P.seen out.old ports.old) (sight S.told P.seen out.new ports.new) vm) }
     ensures silent { speaks result.0 ≡ false → say.new ≡ say.old }
     ensures flushed { IsOver result.0 → S.held out.new ≡ [] }
     ensures none { result.0 ≡ End.NoMemory → (out.new ≡ out.old) × (ports.new ≡ ports.old) }

@@ -37,11 +37,13 @@ module _ (order : Order) (words : List (List ℕ)) (below : Shelf) where
   DoesBy CheckAs old new before behind place ending = ChecksAs order.level old (first_name words) (second_name words) before behind place ending
   DoesBy Dump old new before behind place ending = Dumps old (first_name words) ending before behind × (place ≡ place_in ending)
   DoesBy Cross old new before behind place ending =
-      Crosses order.level (first_name words) (stored (source_name words order.stored_name)) (second_name words) old new ending × Keeps before behind × (place ≡ place_in ending)
+      Crosses order.level (first_name words) (stored (source_name words order.stored_name)) (second_name words) old new ending
+      × Keeps before behind × (place ≡ place_in ending)
   DoesBy Merge old new before behind place ending = Merges (file_names words) (first_name words) old new place ending × Keeps before behind
   DoesBy Freeze old new before behind place ending =
       Freezes (image_version order.base) below (first_name words) (second_name words) old new ending × Keeps before behind × (place ≡ place_in ending)
-  DoesBy Migrate old new before behind place ending = Migrates (first_name words) (second_name words) old new ending × Keeps before behind × (place ≡ place_in ending)
+  DoesBy Migrate old new before behind place ending = Migrates (first_name words) (second_name words) old new ending × Keeps before behind
+      × (place ≡ place_in ending)
   DoesBy Run old new before behind place ending = ⊥
   DoesBy Board old new before behind place ending = Boards below (first_name words) (second_name words) old new before behind place ending
   DoesBy Stress old new before behind place ending = ⊥
@@ -77,7 +79,8 @@ module _ (order : Order) (call : Call) (below : Shelf) where
   -- how one ended whose state is saved, if that is ordered
   abbrev pub RunsOrSaves : Command → Type 0
   RunsOrSaves command =
-      ShowsPorts call (EndsRunTo (saved_name call.words (save_by command order.save)) (LibraryBy order call.words below command) (room_of order) order.steps (first_name call.words))
+      ShowsPorts call (EndsRunTo (saved_name call.words (save_by command order.save)) (LibraryBy order call.words below command)
+      (room_of order) order.steps (first_name call.words))
 
   -- how each command ended
   abbrev pub ActsBy : Command → Type 0

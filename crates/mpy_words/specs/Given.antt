@@ -11,7 +11,18 @@ use Rattle.mpy_words.specs.Number.{number_of}
 
 -- no option was given
 abbrev pub none_given : Given
-none_given = record { seed = None; count = None; level = None; stored_name = None; main_name = None; base = None; save = None; cells = None; bytes = None; steps = None }
+none_given = record {
+  seed = None;
+  count = None;
+  level = None;
+  stored_name = None;
+  main_name = None;
+  base = None;
+  save = None;
+  cells = None;
+  bytes = None;
+  steps = None;
+}
 
 -- was the option given?
 abbrev pub is_given : Given → Setting → Bool

@@ -47,10 +47,12 @@ pub record IsShapeAt (a : Assigned) (p : ℕ) (st : Stack) (es : List Entry) : T
 abbrev pub LeadsOn : Assigned → ℕ → Bool → (d : ℕ) → List Entry → Stack → Type 0
 LeadsOn a t it zero es st = (all_wanted (iterator_if it) st ≡ true) × IsShapeAt a t (drop (length (iterator_if it)) st) es
 LeadsOn a t it (suc d) [] st = ⊥
-LeadsOn a t it (suc d) (e ∷ es) st = (is_run e ≡ true → IsShapeAt a e.handler (KeptJump t d it ∷ cut e.height st) (e ∷ es)) × LeadsOn a t it d es (cut e.height st)
+LeadsOn a t it (suc d) (e ∷ es) st = (is_run e ≡ true → IsShapeAt a e.handler (KeptJump t d it ∷ cut e.height st) (e ∷ es))
+    × LeadsOn a t it d es (cut e.height st)
 
 -- a jump that is kept on the height of an entry leads on below that entry
 abbrev pub JumpsLeadOn : Assigned → List Entry → Stack → Type 0
 JumpsLeadOn a [] st = Unit {0}
 JumpsLeadOn a (e ∷ es) st =
-    ((above rest : Stack) (t d : ℕ) (it : Bool) → st ≡ above ++ KeptJump t d it ∷ rest → length rest ≡ e.height → LeadsOn a t it d es rest) × JumpsLeadOn a es (cut e.height st)
+    ((above rest : Stack) (t d : ℕ) (it : Bool) → st ≡ above ++ KeptJump t d it ∷ rest → length rest ≡ e.height → LeadsOn a t it d es rest)
+    × JumpsLeadOn a es (cut e.height st)

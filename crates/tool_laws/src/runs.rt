@@ -35,7 +35,8 @@ pub fn library_law()
 pub fn go_law()
     ensures one_ending { (level : ℕ) (files : FileOf) (name : List ℕ) (room : Room) (steps : ℕ) (old new_a new_b : Sight) (said_a said_b : List ℕ)
         → Tells old → AreAccounted old.ports new_a.ports → AreAccounted old.ports new_b.ports
-        → EndOnce (Runs (GoLibrary level (Some files) name) room steps old new_a said_a) (Runs (GoLibrary level (Some files) name) room steps old new_b said_b) }
+        → EndOnce (Runs (GoLibrary level (Some files) name) room steps old new_a said_a)
+        (Runs (GoLibrary level (Some files) name) room steps old new_b said_b) }
     ensures alike { (level : ℕ) (files : FileOf) (name : List ℕ) (room : Room) (steps : ℕ) (old new_a new_b : Sight) (said_a said_b : List ℕ)
         → Tells old → AreAccounted old.ports new_a.ports → AreAccounted old.ports new_b.ports → (one other : Ending) → IsSettled one → IsSettled other
         → Runs (GoLibrary level (Some files) name) room steps old new_a said_a one
