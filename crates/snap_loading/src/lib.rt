@@ -3,8 +3,14 @@
 
 mod lookup;
 mod names;
+mod resumed;
 mod safe;
+mod same;
+mod saved;
 mod shown;
 
+pub use resumed::{paid_too_law, resumes_law};
 pub use safe::{safe_law, shells_law};
+pub use same::{files_law, same_law, states_same_law};
+pub use saved::saved_law;
 pub use shown::shown_law;
