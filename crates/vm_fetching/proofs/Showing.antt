@@ -11,7 +11,7 @@ use Rattle.frame_moves.specs.bc_ops.declared.listing.Target.{Target}
 use Rattle.frame_moves.specs.bc_ops.declared.listing.Target.TheVariants.{Position, Offset}
 use Rattle.frame_moves.specs.bc_ops.declared.listing.Item.TheVariants as items
 use Rattle.frame_moves.specs.bc_ops.Code.{TakesOffset}
-use Rattle.frame_moves.specs.bc_ops.Listing.{target}
+use Rattle.frame_moves.specs.bc_ops.Listing.{item, target}
 use Rattle.frame_moves.specs.bc_ops.Signed.{IsSmall}
 use Rattle.frame_moves.specs.bc_ops.Table.{code_of, form_of}
 use Rattle.bc_rows.specs.bc_flow.Code.{item_locals, IsOutside}
@@ -22,7 +22,7 @@ use Rattle.frame_moves.specs.arena_heap.declared.value.ConstNo.{ConstNo}
 use Rattle.frame_moves.specs.arena_objects.Iterables.{or_nothing}
 use Rattle.bc_rows.specs.mpy_tree.Raw.{Module}
 use Rattle.bc_rows.specs.mpy_tree.File.{IsModule}
-use Rattle.bc_rows.specs.mpy_tree.Resolved.{plain, named, resolved_instr, name_at}
+use Rattle.bc_rows.specs.mpy_tree.Resolved.{plain, named, resolved, resolved_instr, name_at}
 use Rattle.bc_rows.specs.mpy_tree.Values.{value_of}
 use Rattle.bc_rows.specs.bc_verify.declared.fault.Rule.TheVariants as rules
 use Rattle.bc_rows.specs.bc_library.Constants.{object_value, text_at}
@@ -33,25 +33,23 @@ use Rattle.bc_rows.specs.declared.row.Row.{Row}
 use Rattle.frame_moves.specs.prim_walks.Plain as plains
 use Rattle.frame_moves.specs.Shown.{Tables, text_of}
 use Rattle.frame_moves.specs.Shown as stepping
-use Rattle.vm_fetching.specs.declared.operations.PlainOp.{PlainOp}
 use Rattle.vm_fetching.specs.declared.operations.NumberOp.{NumberOp}
 use Rattle.vm_fetching.specs.declared.operations.NumberOp.TheVariants as numbers
-use Rattle.vm_fetching.specs.declared.operations.NameOp.{NameOp}
+use Rattle.vm_fetching.specs.declared.operations.MakeOp.{MakeOp}
+use Rattle.vm_fetching.specs.declared.operations.MakeOp.TheVariants as make_ops
+use Rattle.vm_fetching.specs.declared.operations.CallOp.{CallOp}
+use Rattle.vm_fetching.specs.declared.operations.CallOp.TheVariants as call_ops
 use Rattle.vm_fetching.specs.declared.operations.JumpOp.{JumpOp}
 use Rattle.vm_fetching.specs.declared.instruction.Instruction.{Instruction}
 use Rattle.vm_fetching.specs.declared.instruction.Instruction.TheVariants as fetched
-use Rattle.vm_fetching.specs.Operations.{plain_op, number_op, name_op, jump_op}
-use Rattle.vm_fetching.specs.Numbered.{IsNumbered, number, object}
+use Rattle.vm_fetching.specs.Operations.{plain_op, leave_op, number_op, make_op, call_op, name_op, jump_op}
+use Rattle.vm_fetching.specs.Numbered.{IsNumbered, number, make, call, object}
+use Rattle.vm_fetching.specs.Families.{IsNamed, IsWhole}
 use Rattle.vm_fetching.specs.Fetches.{AreOf, IsVerifiedRow}
-use Rattle.vm_fetching.specs.Shows.{NumberIsWithin, IsPooled, Shows}
+use Rattle.vm_fetching.specs.Shows.{NumberIsWithin, Shows}
 use Rattle.vm_fetching.proofs.Constants.{plain_object, object_there, at_index}
 use Rattle.vm_fetching.proofs.Kept.{Kept, kept, unbroken, unless}
 use Rattle.vm_fetching.proofs.Texts as texts
-
--- a number of the pool is one
-pooled_number : (s : StrNo) → IsPooled s → (n : ℕ) × (s ≡ strs.Pool n)
-pooled_number (strs.Pool n) h = (n, refl)
-pooled_number (strs.Object c) h = absurd h
 
 -- an operation with a number is no other operation
 number_item : (m : Module) (o : NumberOp) (n : ℕ) → resolved_instr m (instrs.Num (number_op o) n) ≡ plain (instrs.Num (number_op o) n)
@@ -64,10 +62,14 @@ number_item m numbers.BuildTuple n = refl
 number_item m numbers.BuildList n = refl
 number_item m numbers.BuildMap n = refl
 number_item m numbers.UnpackSequence n = refl
-number_item m numbers.MakeFunction n = refl
-number_item m numbers.MakeFunctionDefargs n = refl
-number_item m numbers.CallFunction n = refl
-number_item m numbers.CallMethod n = refl
+
+make_item : (m : Module) (o : MakeOp) (n : ℕ) → resolved_instr m (instrs.Num (make_op o) n) ≡ plain (instrs.Num (make_op o) n)
+make_item m make_ops.MakeFunction n = refl
+make_item m make_ops.MakeFunctionDefargs n = refl
+
+call_item : (m : Module) (o : CallOp) (n : ℕ) → resolved_instr m (instrs.Num (call_op o) n) ≡ plain (instrs.Num (call_op o) n)
+call_item m call_ops.CallFunction n = refl
+call_item m call_ops.CallMethod n = refl
 
 number_fits : (o : NumberOp) (n locals : ℕ) → item_locals (items.Plain (instrs.Num (number_op o) n)) ≤ locals → NumberIsWithin locals o n
 unfolding item_locals
@@ -80,10 +82,6 @@ number_fits numbers.BuildTuple n locals le = tt
 number_fits numbers.BuildList n locals le = tt
 number_fits numbers.BuildMap n locals le = tt
 number_fits numbers.UnpackSequence n locals le = tt
-number_fits numbers.MakeFunction n locals le = tt
-number_fits numbers.MakeFunctionDefargs n locals le = tt
-number_fits numbers.CallFunction n locals le = tt
-number_fits numbers.CallMethod n locals le = tt
 
 pub jump_form : (op : Op) (wide : Bool) (offset : ℤ) (form : Form) → form_of (code_of op) ≡ form → TakesOffset form op wide offset → (signed : Bool) × (form_of (code_of op) ≡ forms.Offset op signed)
 jump_form op wide offset (forms.Offset o signed) e t = (signed, e ∙ ap (λ z. forms.Offset z signed) t.0)
@@ -143,8 +141,24 @@ module _ (shelf : Shelf) (i : ℕ) (row : Row) (v : IsVerifiedRow shelf i row) (
     abbrev S : Instr → Instruction → Type 0
     S instr shown = Shows shelf m tables row l end instr shown
 
-    pub shows_plain : (op : Op) (o : PlainOp) → plain_op o ≡ op → S (instrs.Plain op) (fetched.Plain o)
-    shows_plain op o e = record { item_is = ap (λ z. machine.Plain (instrs.Plain z)) (sym e); target = tt; local = tt; text = tt; constant = tt }
+    its_plain : (o op : Op) → o ≡ op → machine.item_of (length l.items) (plain (instrs.Plain op)) ≡ machine.Plain (instrs.Plain o)
+    its_plain o op e = ap (λ z. machine.Plain (instrs.Plain z)) (sym e)
+
+    pub shows_plain : (op : Op) (result : Instruction) → IsWhole op result → S (instrs.Plain op) result
+    shows_plain op (fetched.Plain o) e = record { item_is = its_plain (plain_op o) op e; target = tt; local = tt; text = tt; constant = tt }
+    shows_plain op (fetched.Leave o) e = record { item_is = its_plain (leave_op o) op e; target = tt; local = tt; text = tt; constant = tt }
+    shows_plain op fetched.Finish e = record { item_is = its_plain ops.EndFinally op e; target = tt; local = tt; text = tt; constant = tt }
+    shows_plain op (fetched.Number o n) e = absurd e
+    shows_plain op (fetched.Int z) e = absurd e
+    shows_plain op (fetched.Unary n) e = absurd e
+    shows_plain op (fetched.Binary n) e = absurd e
+    shows_plain op (fetched.Name o s) e = absurd e
+    shows_plain op (fetched.Object x) e = absurd e
+    shows_plain op (fetched.Jump o to) e = absurd e
+    shows_plain op (fetched.Unwind to byte) e = absurd e
+    shows_plain op (fetched.Make o n) e = absurd e
+    shows_plain op (fetched.Import n) e = absurd e
+    shows_plain op (fetched.Call o n) e = absurd e
 
     pub shows_int : (z : ℤ) → IsSmall z → S (instrs.Int z) (fetched.Int z)
     shows_int z small = record { item_is = refl; target = tt; local = tt; text = tt; constant = small }
@@ -155,25 +169,60 @@ module _ (shelf : Shelf) (i : ℕ) (row : Row) (v : IsVerifiedRow shelf i row) (
     pub shows_binary : (n : ℕ) → S (instrs.Binary n) (fetched.Binary n)
     shows_binary n = record { item_is = refl; target = tt; local = tt; text = tt; constant = tt }
 
-    pub shows_name : (op : Op) (o : NameOp) (n : ℕ) (s : StrNo) → name_op o ≡ op → text_at shelf s ≡ table_text shelf i n → IsPooled s → Reads l at (instrs.Name op n) end → S (instrs.Name op n) (fetched.Name o s)
-    shows_name op o n s e same pooled r =
-        let t = texts.text_there m n is_module (name_within op n r) in
-        let text : text_at shelf s ≡ Some t.0 = same ∙ (texts.same_text shelf i m n there ∙ t.1) in
-        let shown_text : text_of tables s ≡ t.0 = ap (λ (f : StrNo → Option (List ℕ)). or_nothing (f s)) of.texts ∙ ap or_nothing text in
-        record {
-          item_is = ap (λ x. machine.item_of (length l.items) (unwrap_or (option_map (named op) x) (plain (instrs.Name op n)))) t.1
-              ∙ (ap (λ z. machine.Names z t.0) (sym e) ∙ ap (machine.Names (name_op o)) (sym shown_text));
-          target = tt;
-          local = tt;
-          text = let p = pooled_number s pooled in (p.0, p.1, ap is_some text);
-          constant = tt;
-        }
+    -- a text of the pool, and the item that names it
+    its_text : (n k : ℕ) → text_at shelf (strs.Pool k) ≡ table_text shelf i n → n < length m.qstrs → (t : List ℕ) × (name_at m n ≡ Some t) × (text_at shelf (strs.Pool k) ≡ Some t)
+    its_text n k same lt =
+        let t = texts.text_there m n is_module lt in
+        (t.0, t.1, same ∙ (texts.same_text shelf i m n there ∙ t.1))
+
+    its_name : (o op : Op) (n k : ℕ) → o ≡ op → text_at shelf (strs.Pool k) ≡ table_text shelf i n → Reads l at (instrs.Name op n) end
+        → machine.item_of (length l.items) (resolved m (item l.offsets end (instrs.Name op n))) ≡ machine.Names o (text_of tables (strs.Pool k))
+    its_name o op n k e same r =
+        let t = its_text n k same (name_within op n r) in
+        let shown_text : text_of tables (strs.Pool k) ≡ t.0 = ap (λ (f : StrNo → Option (List ℕ)). or_nothing (f (strs.Pool k))) of.texts ∙ ap or_nothing t.2 in
+        ap (λ x. machine.item_of (length l.items) (unwrap_or (option_map (named op) x) (plain (instrs.Name op n)))) t.1
+        ∙ (ap (λ z. machine.Names z t.0) (sym e) ∙ ap (machine.Names o) (sym shown_text))
+
+    its_there : (op : Op) (n k : ℕ) → text_at shelf (strs.Pool k) ≡ table_text shelf i n → Reads l at (instrs.Name op n) end → IsSome (text_at shelf (strs.Pool k))
+    its_there op n k same r = ap is_some (its_text n k same (name_within op n r)).2
+
+    pub shows_name : (op : Op) (n k : ℕ) (result : Instruction) → IsNamed op k result → text_at shelf (strs.Pool k) ≡ table_text shelf i n → Reads l at (instrs.Name op n) end → S (instrs.Name op n) result
+    shows_name op n k (fetched.Name o s) e same r = record {
+      item_is = its_name (name_op o) op n k e.0 same r ∙ ap (λ (z : StrNo). machine.Names (name_op o) (text_of tables z)) (sym e.1);
+      target = tt;
+      local = tt;
+      text = (k, e.1, ap (λ (z : StrNo). is_some (text_at shelf z)) e.1 ∙ its_there op n k same r);
+      constant = tt;
+    }
+    shows_name op n k (fetched.Import j) e same r = record {
+      item_is = its_name ops.ImportName op n k e.0 same r ∙ ap (λ (z : ℕ). machine.Names ops.ImportName (text_of tables (strs.Pool z))) (sym e.1);
+      target = tt;
+      local = tt;
+      text = ap (λ (z : ℕ). is_some (text_at shelf (strs.Pool z))) e.1 ∙ its_there op n k same r;
+      constant = tt;
+    }
+    shows_name op n k fetched.Finish e same r = absurd e
+    shows_name op n k (fetched.Plain o) e same r = absurd e
+    shows_name op n k (fetched.Number o j) e same r = absurd e
+    shows_name op n k (fetched.Int z) e same r = absurd e
+    shows_name op n k (fetched.Unary j) e same r = absurd e
+    shows_name op n k (fetched.Binary j) e same r = absurd e
+    shows_name op n k (fetched.Object x) e same r = absurd e
+    shows_name op n k (fetched.Jump o to) e same r = absurd e
+    shows_name op n k (fetched.Unwind to byte) e same r = absurd e
+    shows_name op n k (fetched.Leave o) e same r = absurd e
+    shows_name op n k (fetched.Make o j) e same r = absurd e
+    shows_name op n k (fetched.Call o j) e same r = absurd e
 
     pub shows_number : (op : Op) (n : ℕ) (result : Instruction) → IsNumbered shelf i n op result → Reads l at (instrs.Num op n) end → S (instrs.Num op n) result
     shows_number op n result (number o) r =
         let k : Kept m row l = its_kept in
         let le = k.locals_fit (position_in l.offsets at) (items.Plain (instrs.Num (number_op o) n)) r.is in
         record { item_is = ap (machine.item_of (length l.items)) (number_item m o n); target = tt; local = number_fits o n row.locals le; text = tt; constant = tt }
+    shows_number op n result (make o) r =
+        record { item_is = ap (machine.item_of (length l.items)) (make_item m o n); target = tt; local = tt; text = tt; constant = tt }
+    shows_number op n result (call o) r =
+        record { item_is = ap (machine.item_of (length l.items)) (call_item m o n); target = tt; local = tt; text = tt; constant = tt }
     shows_number op n result (object x e) r =
         let c = at_index m.objects n (object_within n r) in
         let value : stepping.value_of tables x ≡ value_of c.0 =

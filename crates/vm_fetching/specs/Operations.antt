@@ -3,8 +3,14 @@ use Rattle.frame_moves.specs.bc_ops.declared.instr.Op.{Op}
 use Rattle.frame_moves.specs.bc_ops.declared.instr.Op.TheVariants as ops
 use Rattle.vm_fetching.specs.declared.operations.PlainOp.{PlainOp}
 use Rattle.vm_fetching.specs.declared.operations.PlainOp.TheVariants as plain_ops
+use Rattle.vm_fetching.specs.declared.operations.LeaveOp.{LeaveOp}
+use Rattle.vm_fetching.specs.declared.operations.LeaveOp.TheVariants as leave_ops
 use Rattle.vm_fetching.specs.declared.operations.NumberOp.{NumberOp}
 use Rattle.vm_fetching.specs.declared.operations.NumberOp.TheVariants as number_ops
+use Rattle.vm_fetching.specs.declared.operations.MakeOp.{MakeOp}
+use Rattle.vm_fetching.specs.declared.operations.MakeOp.TheVariants as make_ops
+use Rattle.vm_fetching.specs.declared.operations.CallOp.{CallOp}
+use Rattle.vm_fetching.specs.declared.operations.CallOp.TheVariants as call_ops
 use Rattle.vm_fetching.specs.declared.operations.NameOp.{NameOp}
 use Rattle.vm_fetching.specs.declared.operations.NameOp.TheVariants as name_ops
 use Rattle.vm_fetching.specs.declared.operations.JumpOp.{JumpOp}
@@ -23,12 +29,14 @@ plain_op plain_ops.DupTopTwo = ops.DupTopTwo
 plain_op plain_ops.PopTop = ops.PopTop
 plain_op plain_ops.RotTwo = ops.RotTwo
 plain_op plain_ops.RotThree = ops.RotThree
-plain_op plain_ops.EndFinally = ops.EndFinally
 plain_op plain_ops.GetIterStack = ops.GetIterStack
 plain_op plain_ops.StoreMap = ops.StoreMap
-plain_op plain_ops.ReturnValue = ops.ReturnValue
-plain_op plain_ops.RaiseLast = ops.RaiseLast
-plain_op plain_ops.RaiseObj = ops.RaiseObj
+
+-- one that leaves the call, or a part of it
+abbrev pub leave_op : LeaveOp → Op
+leave_op leave_ops.ReturnValue = ops.ReturnValue
+leave_op leave_ops.RaiseLast = ops.RaiseLast
+leave_op leave_ops.RaiseObj = ops.RaiseObj
 
 -- one with a number
 abbrev pub number_op : NumberOp → Op
@@ -41,10 +49,16 @@ number_op number_ops.BuildTuple = ops.BuildTuple
 number_op number_ops.BuildList = ops.BuildList
 number_op number_ops.BuildMap = ops.BuildMap
 number_op number_ops.UnpackSequence = ops.UnpackSequence
-number_op number_ops.MakeFunction = ops.MakeFunction
-number_op number_ops.MakeFunctionDefargs = ops.MakeFunctionDefargs
-number_op number_ops.CallFunction = ops.CallFunction
-number_op number_ops.CallMethod = ops.CallMethod
+
+-- one that makes a function
+abbrev pub make_op : MakeOp → Op
+make_op make_ops.MakeFunction = ops.MakeFunction
+make_op make_ops.MakeFunctionDefargs = ops.MakeFunctionDefargs
+
+-- one that calls
+abbrev pub call_op : CallOp → Op
+call_op call_ops.CallFunction = ops.CallFunction
+call_op call_ops.CallMethod = ops.CallMethod
 
 -- one with a name
 abbrev pub name_op : NameOp → Op
@@ -58,7 +72,6 @@ name_op name_ops.DeleteGlobal = ops.DeleteGlobal
 name_op name_ops.LoadAttr = ops.LoadAttr
 name_op name_ops.LoadMethod = ops.LoadMethod
 name_op name_ops.StoreAttr = ops.StoreAttr
-name_op name_ops.ImportName = ops.ImportName
 name_op name_ops.ImportFrom = ops.ImportFrom
 
 -- one that jumps

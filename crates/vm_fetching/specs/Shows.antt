@@ -1,13 +1,13 @@
 -- What is fetched, as the machine's items.
 use Rattle.std.specs.Prelude.{◌≡◌, ℕ, ◌<◌, List, length, Some, IsSome}
 use Rattle.frame_moves.specs.bc_ops.declared.instr.Instr.{Instr}
+use Rattle.frame_moves.specs.bc_ops.declared.instr.Op.TheVariants as ops
 use Rattle.frame_moves.specs.bc_ops.declared.instr.Instr.TheVariants as instrs
 use Rattle.frame_moves.specs.bc_ops.Listing.{item}
 use Rattle.frame_moves.specs.bc_ops.Signed.{IsSmall}
 use Rattle.frame_moves.specs.bc_labels.Positions.{CodeList, Starts, position_in}
 use Rattle.bc_rows.specs.mpy_tree.Raw.{Module}
 use Rattle.bc_rows.specs.mpy_tree.Resolved.{resolved}
-use Rattle.frame_moves.specs.arena_heap.declared.value.StrNo.{StrNo}
 use Rattle.frame_moves.specs.arena_heap.declared.value.StrNo.TheVariants as strs
 use Rattle.bc_rows.specs.bc_library.Constants.{object_value, text_at}
 use Rattle.bc_rows.specs.bc_library.Shelf.{Shelf}
@@ -19,7 +19,7 @@ use Rattle.vm_fetching.specs.declared.operations.NumberOp.{NumberOp}
 use Rattle.vm_fetching.specs.declared.operations.NumberOp.TheVariants as numbers
 use Rattle.vm_fetching.specs.declared.instruction.Instruction.{Instruction}
 use Rattle.vm_fetching.specs.declared.instruction.Instruction.TheVariants as fetched
-use Rattle.vm_fetching.specs.Operations.{plain_op, number_op, name_op, jump_op}
+use Rattle.vm_fetching.specs.Operations.{plain_op, leave_op, number_op, make_op, call_op, name_op, jump_op}
 
 -- the machine's item of what is fetched, where instructions start at these offsets
 module _ (tables : Tables) (starts : List ℕ) where
@@ -34,18 +34,17 @@ module _ (tables : Tables) (starts : List ℕ) where
   item_of_fetched (fetched.Object v) = machine.Loads (value_of tables v)
   item_of_fetched (fetched.Jump op target) = machine.Jumps (jump_op op) (position_in starts target)
   item_of_fetched (fetched.Unwind target byte) = machine.Unwinds (position_in starts target) byte
+  item_of_fetched (fetched.Leave op) = machine.Plain (instrs.Plain (leave_op op))
+  item_of_fetched fetched.Finish = machine.Plain (instrs.Plain ops.EndFinally)
+  item_of_fetched (fetched.Make op n) = machine.Plain (instrs.Num (make_op op) n)
+  item_of_fetched (fetched.Import n) = machine.Names ops.ImportName (text_of tables (strs.Pool n))
+  item_of_fetched (fetched.Call op n) = machine.Plain (instrs.Num (call_op op) n)
 
 -- an instruction starts at the offset that it jumps to
 abbrev pub TargetStarts : List ℕ → Instruction → Type 0
 TargetStarts starts (fetched.Jump op target) = Starts starts target
 TargetStarts starts (fetched.Unwind target byte) = Starts starts target
-TargetStarts starts (fetched.Plain op) = Unit {0}
-TargetStarts starts (fetched.Number op n) = Unit {0}
-TargetStarts starts (fetched.Int z) = Unit {0}
-TargetStarts starts (fetched.Unary n) = Unit {0}
-TargetStarts starts (fetched.Binary n) = Unit {0}
-TargetStarts starts (fetched.Name op text) = Unit {0}
-TargetStarts starts (fetched.Object v) = Unit {0}
+TargetStarts starts _ = Unit {0}
 
 -- the local with the number is one of `locals`, where the operation has the number of one
 abbrev pub NumberIsWithin : (locals : ℕ) → NumberOp → ℕ → Type 0
@@ -58,51 +57,23 @@ NumberIsWithin locals numbers.BuildTuple n = Unit {0}
 NumberIsWithin locals numbers.BuildList n = Unit {0}
 NumberIsWithin locals numbers.BuildMap n = Unit {0}
 NumberIsWithin locals numbers.UnpackSequence n = Unit {0}
-NumberIsWithin locals numbers.MakeFunction n = Unit {0}
-NumberIsWithin locals numbers.MakeFunctionDefargs n = Unit {0}
-NumberIsWithin locals numbers.CallFunction n = Unit {0}
-NumberIsWithin locals numbers.CallMethod n = Unit {0}
 
 -- the local that was named, if one was, is one of `locals`
 abbrev pub LocalIsWithin : (locals : ℕ) → Instruction → Type 0
 LocalIsWithin locals (fetched.Number op n) = NumberIsWithin locals op n
-LocalIsWithin locals (fetched.Plain op) = Unit {0}
-LocalIsWithin locals (fetched.Int z) = Unit {0}
-LocalIsWithin locals (fetched.Unary n) = Unit {0}
-LocalIsWithin locals (fetched.Binary n) = Unit {0}
-LocalIsWithin locals (fetched.Name op text) = Unit {0}
-LocalIsWithin locals (fetched.Object v) = Unit {0}
-LocalIsWithin locals (fetched.Jump op target) = Unit {0}
-LocalIsWithin locals (fetched.Unwind target byte) = Unit {0}
-
--- a number of the library's pool
-abbrev pub IsPooled : StrNo → Type 0
-IsPooled (strs.Pool n) = Unit {0}
-IsPooled (strs.Object c) = ⊥
+LocalIsWithin locals _ = Unit {0}
 
 -- the text that it names is one of the library's pool
 abbrev pub TextIsThere : Shelf → Instruction → Type 0
 TextIsThere shelf (fetched.Name op text) = (n : ℕ) × (text ≡ strs.Pool n) × IsSome (text_at shelf text)
-TextIsThere shelf (fetched.Plain op) = Unit {0}
-TextIsThere shelf (fetched.Number op n) = Unit {0}
-TextIsThere shelf (fetched.Int z) = Unit {0}
-TextIsThere shelf (fetched.Unary n) = Unit {0}
-TextIsThere shelf (fetched.Binary n) = Unit {0}
-TextIsThere shelf (fetched.Object v) = Unit {0}
-TextIsThere shelf (fetched.Jump op target) = Unit {0}
-TextIsThere shelf (fetched.Unwind target byte) = Unit {0}
+TextIsThere shelf (fetched.Import n) = IsSome (text_at shelf (strs.Pool n))
+TextIsThere shelf _ = Unit {0}
 
 -- the object that it loads is one of a module of the library, and the integer is small
 abbrev pub ConstantIsThere : Shelf → Instruction → Type 0
 ConstantIsThere shelf (fetched.Object v) = (i : ℕ) × (n : ℕ) × (object_value shelf i n ≡ Some v)
 ConstantIsThere shelf (fetched.Int z) = IsSmall z
-ConstantIsThere shelf (fetched.Plain op) = Unit {0}
-ConstantIsThere shelf (fetched.Number op n) = Unit {0}
-ConstantIsThere shelf (fetched.Unary n) = Unit {0}
-ConstantIsThere shelf (fetched.Binary n) = Unit {0}
-ConstantIsThere shelf (fetched.Name op text) = Unit {0}
-ConstantIsThere shelf (fetched.Jump op target) = Unit {0}
-ConstantIsThere shelf (fetched.Unwind target byte) = Unit {0}
+ConstantIsThere shelf _ = Unit {0}
 
 -- the instruction of a list that ends at the offset, with the numbers of the library
 pub record Shows (shelf : Shelf) (m : Module) (tables : Tables) (row : Row) (l : CodeList) (end : ℕ) (instr : Instr) (shown : Instruction) : Type 0 where

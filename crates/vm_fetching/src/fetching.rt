@@ -16,7 +16,7 @@ ghost use Rattle.vm_fetching.specs.Shows.{Shows};
 
 use crate::instruction::{Fetched, Instruction};
 use crate::looking::{object_of, text_of};
-use crate::operations::{jump_op, name_op, number_op, plain_op};
+use crate::operations::{CallOp, MakeOp, NumberOp, jump_op, named, plain};
 use bc_labels::jump_target;
 use bc_ops::{Instr, Op, decode_at};
 use bc_rows::{Library, Row};
@@ -36,16 +36,28 @@ fn read_at(bytes: &[u8], at: u32) -> (Instr, u32)
     (instr, end as u32)
 }
 
-/// An operation with a number, or the object that has it.
+/// An operation with a number, by what carries it out, or the object that has the number.
 #[inline(always)]
 fn numbered(library: &Library, module_number: u32, op: Op, n: u32) -> Instruction
     requires form { TakesNumber (form_of (code_of op)) op n }
     requires there { op ≡ Op.LoadConstObj → IsSome (object_value library.now module_number n) }
     ensures { IsNumbered library.now module_number n op result }
 {
-    match number_op(op) {
-        Some(op) => Instruction::Number(op, n),
-        None => Instruction::Object(object_of(library, module_number, n)),
+    match op {
+        Op::LoadFast => Instruction::Number(NumberOp::LoadFast, n),
+        Op::LoadFastN => Instruction::Number(NumberOp::LoadFastN, n),
+        Op::StoreFast => Instruction::Number(NumberOp::StoreFast, n),
+        Op::StoreFastN => Instruction::Number(NumberOp::StoreFastN, n),
+        Op::DeleteFast => Instruction::Number(NumberOp::DeleteFast, n),
+        Op::BuildTuple => Instruction::Number(NumberOp::BuildTuple, n),
+        Op::BuildList => Instruction::Number(NumberOp::BuildList, n),
+        Op::BuildMap => Instruction::Number(NumberOp::BuildMap, n),
+        Op::UnpackSequence => Instruction::Number(NumberOp::UnpackSequence, n),
+        Op::MakeFunction => Instruction::Make(MakeOp::MakeFunction, n),
+        Op::MakeFunctionDefargs => Instruction::Make(MakeOp::MakeFunctionDefargs, n),
+        Op::CallFunction => Instruction::Call(CallOp::CallFunction, n),
+        Op::CallMethod => Instruction::Call(CallOp::CallMethod, n),
+        _ => Instruction::Object(object_of(library, module_number, n)),
     }
 }
 
@@ -67,8 +79,8 @@ fn shown(
         → Shows library.now m tables row.now l end instr result }
 {
     match instr {
-        Instr::Plain(op) => Instruction::Plain(plain_op(op)),
-        Instr::Name(op, n) => Instruction::Name(name_op(op), text_of(library, module_number, n)),
+        Instr::Plain(op) => plain(op),
+        Instr::Name(op, n) => named(op, text_of(library, module_number, n)),
         Instr::Num(op, n) => numbered(library, module_number, op, n),
         Instr::Int(n) => Instruction::Int(n),
         Instr::Jump {

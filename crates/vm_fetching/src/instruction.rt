@@ -1,9 +1,9 @@
 //! What is fetched: an instruction with the numbers of its library, in place of those of its module.
 
-use crate::operations::{JumpOp, NameOp, NumberOp, PlainOp};
+use crate::operations::{CallOp, JumpOp, LeaveOp, MakeOp, NameOp, NumberOp, PlainOp};
 use arena_heap::{StrNo, Value};
 
-/// An instruction with the numbers of its library: a text, an object and the offset that it jumps to.
+/// An instruction by what carries it out, with the numbers of its library: a text, an object and the offset that it jumps to.
 #[derive(Clone, Copy, Debug, PartialEq, Eq)]
 pub enum Instruction {
     Plain(PlainOp),
@@ -21,6 +21,16 @@ pub enum Instruction {
     Jump(JumpOp, u32),
     /// The byte counts the entries that are left, and its highest bit says that an iterator is taken.
     Unwind { target: u32, byte: u8 },
+    /// A return or a raise.
+    Leave(LeaveOp),
+    /// The end of a finally.
+    Finish,
+    /// A function of the child that has the number.
+    Make(MakeOp, u32),
+    /// An import of the module whose name has the number in the library's pool.
+    Import(u32),
+    /// A call. The number says how many operands lie on top.
+    Call(CallOp, u32),
 }
 
 /// An instruction, and the offset that it ends at.

@@ -13,4 +13,4 @@ pub use fetching::fetch;
 pub use instruction::{Fetched, Instruction};
 pub use law::step_law;
 pub use lines::line_of;
-pub use operations::{JumpOp, NameOp, NumberOp, PlainOp};
+pub use operations::{CallOp, JumpOp, LeaveOp, MakeOp, NameOp, NumberOp, PlainOp};

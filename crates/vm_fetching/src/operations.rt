@@ -1,15 +1,17 @@
-//! Operations by what they have behind their byte.
+//! Operations by what carries them out.
 
-ghost use Rattle.std.specs.Prelude.{◌≡◌, ℕ, Bool, IfSome, IfNone};
+ghost use Rattle.std.specs.Prelude.{◌≡◌, Bool};
 ghost use Rattle.frame_moves.specs.bc_ops.declared.form.Form.TheVariants as forms;
 ghost use Rattle.frame_moves.specs.bc_ops.declared.instr.Instr.TheVariants as instrs;
-ghost use Rattle.frame_moves.specs.bc_ops.Code.{TakesNumber};
 ghost use Rattle.frame_moves.specs.bc_ops.Table.{code_of, form_of};
+ghost use Rattle.vm_fetching.specs.Families.{IsNamed, IsWhole};
 ghost use Rattle.vm_fetching.specs.Operations as operations;
 
+use crate::instruction::Instruction;
+use arena_heap::StrNo;
 use bc_ops::Op;
 
-/// An operation without an operand.
+/// An operation without an operand that stays in the running call.
 #[derive(Clone, Copy, Debug, PartialEq, Eq)]
 pub enum PlainOp {
     LoadConstFalse,
@@ -23,15 +25,19 @@ pub enum PlainOp {
     PopTop,
     RotTwo,
     RotThree,
-    EndFinally,
     GetIterStack,
     StoreMap,
+}
+
+/// An operation that leaves the running call, or a part of it.
+#[derive(Clone, Copy, Debug, PartialEq, Eq)]
+pub enum LeaveOp {
     ReturnValue,
     RaiseLast,
     RaiseObj,
 }
 
-/// An operation with a number: of a local or a child, or a count.
+/// An operation with a number, of a local or a count, that stays in the running call.
 #[derive(Clone, Copy, Debug, PartialEq, Eq)]
 pub enum NumberOp {
     LoadFast,
@@ -43,13 +49,23 @@ pub enum NumberOp {
     BuildList,
     BuildMap,
     UnpackSequence,
+}
+
+/// An operation that makes a function, without defaults or with those that lie on top.
+#[derive(Clone, Copy, Debug, PartialEq, Eq)]
+pub enum MakeOp {
     MakeFunction,
     MakeFunctionDefargs,
+}
+
+/// An operation that calls a value.
+#[derive(Clone, Copy, Debug, PartialEq, Eq)]
+pub enum CallOp {
     CallFunction,
     CallMethod,
 }
 
-/// An operation that names a text.
+/// An operation that names a text, and stays in the running call.
 #[derive(Clone, Copy, Debug, PartialEq, Eq)]
 pub enum NameOp {
     LoadConstString,
@@ -62,7 +78,6 @@ pub enum NameOp {
     LoadAttr,
     LoadMethod,
     StoreAttr,
-    ImportName,
     ImportFrom,
 }
 
@@ -80,77 +95,53 @@ pub enum JumpOp {
     ForIter,
 }
 
-/// The operation among those of its kind.
+/// The operation without an operand, by what carries it out.
 #[inline(always)]
-pub(crate) fn plain_op(op: Op) -> PlainOp
+pub(crate) fn plain(op: Op) -> Instruction
     requires { form_of (code_of op) ≡ forms.Whole (instrs.Plain op) }
-    ensures { operations.plain_op result ≡ op }
+    ensures { IsWhole op result }
 {
     match op {
-        Op::LoadConstFalse => PlainOp::LoadConstFalse,
-        Op::LoadConstNone => PlainOp::LoadConstNone,
-        Op::LoadConstTrue => PlainOp::LoadConstTrue,
-        Op::LoadNull => PlainOp::LoadNull,
-        Op::LoadSubscr => PlainOp::LoadSubscr,
-        Op::StoreSubscr => PlainOp::StoreSubscr,
-        Op::DupTop => PlainOp::DupTop,
-        Op::DupTopTwo => PlainOp::DupTopTwo,
-        Op::PopTop => PlainOp::PopTop,
-        Op::RotTwo => PlainOp::RotTwo,
-        Op::RotThree => PlainOp::RotThree,
-        Op::EndFinally => PlainOp::EndFinally,
-        Op::GetIterStack => PlainOp::GetIterStack,
-        Op::StoreMap => PlainOp::StoreMap,
-        Op::ReturnValue => PlainOp::ReturnValue,
-        Op::RaiseLast => PlainOp::RaiseLast,
-        Op::RaiseObj => PlainOp::RaiseObj,
+        Op::LoadConstFalse => Instruction::Plain(PlainOp::LoadConstFalse),
+        Op::LoadConstNone => Instruction::Plain(PlainOp::LoadConstNone),
+        Op::LoadConstTrue => Instruction::Plain(PlainOp::LoadConstTrue),
+        Op::LoadNull => Instruction::Plain(PlainOp::LoadNull),
+        Op::LoadSubscr => Instruction::Plain(PlainOp::LoadSubscr),
+        Op::StoreSubscr => Instruction::Plain(PlainOp::StoreSubscr),
+        Op::DupTop => Instruction::Plain(PlainOp::DupTop),
+        Op::DupTopTwo => Instruction::Plain(PlainOp::DupTopTwo),
+        Op::PopTop => Instruction::Plain(PlainOp::PopTop),
+        Op::RotTwo => Instruction::Plain(PlainOp::RotTwo),
+        Op::RotThree => Instruction::Plain(PlainOp::RotThree),
+        Op::GetIterStack => Instruction::Plain(PlainOp::GetIterStack),
+        Op::StoreMap => Instruction::Plain(PlainOp::StoreMap),
+        Op::EndFinally => Instruction::Finish,
+        Op::ReturnValue => Instruction::Leave(LeaveOp::ReturnValue),
+        Op::RaiseLast => Instruction::Leave(LeaveOp::RaiseLast),
+        Op::RaiseObj => Instruction::Leave(LeaveOp::RaiseObj),
         _ => unreachable!(),
     }
 }
 
-/// The operation among those of its kind.
+/// The operation that names a text of the pool, by what carries it out.
 #[inline(always)]
-pub(crate) fn number_op(op: Op) -> Option<NumberOp>
-    ensures some { IfSome result (λ o. operations.number_op o ≡ op) }
-    ensures none { (n : ℕ) → TakesNumber (form_of (code_of op)) op n → IfNone result (op ≡ Op.LoadConstObj) }
-{
-    match op {
-        Op::LoadFast => Some(NumberOp::LoadFast),
-        Op::LoadFastN => Some(NumberOp::LoadFastN),
-        Op::StoreFast => Some(NumberOp::StoreFast),
-        Op::StoreFastN => Some(NumberOp::StoreFastN),
-        Op::DeleteFast => Some(NumberOp::DeleteFast),
-        Op::BuildTuple => Some(NumberOp::BuildTuple),
-        Op::BuildList => Some(NumberOp::BuildList),
-        Op::BuildMap => Some(NumberOp::BuildMap),
-        Op::UnpackSequence => Some(NumberOp::UnpackSequence),
-        Op::MakeFunction => Some(NumberOp::MakeFunction),
-        Op::MakeFunctionDefargs => Some(NumberOp::MakeFunctionDefargs),
-        Op::CallFunction => Some(NumberOp::CallFunction),
-        Op::CallMethod => Some(NumberOp::CallMethod),
-        _ => None,
-    }
-}
-
-/// The operation among those of its kind.
-#[inline(always)]
-pub(crate) fn name_op(op: Op) -> NameOp
+pub(crate) fn named(op: Op, text: u32) -> Instruction
     requires { form_of (code_of op) ≡ forms.Name op }
-    ensures { operations.name_op result ≡ op }
+    ensures { IsNamed op text result }
 {
     match op {
-        Op::LoadConstString => NameOp::LoadConstString,
-        Op::LoadName => NameOp::LoadName,
-        Op::LoadGlobal => NameOp::LoadGlobal,
-        Op::StoreName => NameOp::StoreName,
-        Op::StoreGlobal => NameOp::StoreGlobal,
-        Op::DeleteName => NameOp::DeleteName,
-        Op::DeleteGlobal => NameOp::DeleteGlobal,
-        Op::LoadAttr => NameOp::LoadAttr,
-        Op::LoadMethod => NameOp::LoadMethod,
-        Op::StoreAttr => NameOp::StoreAttr,
-        Op::ImportName => NameOp::ImportName,
-        Op::ImportFrom => NameOp::ImportFrom,
+        Op::LoadConstString => Instruction::Name(NameOp::LoadConstString, StrNo::Pool(text)),
+        Op::LoadName => Instruction::Name(NameOp::LoadName, StrNo::Pool(text)),
+        Op::LoadGlobal => Instruction::Name(NameOp::LoadGlobal, StrNo::Pool(text)),
+        Op::StoreName => Instruction::Name(NameOp::StoreName, StrNo::Pool(text)),
+        Op::StoreGlobal => Instruction::Name(NameOp::StoreGlobal, StrNo::Pool(text)),
+        Op::DeleteName => Instruction::Name(NameOp::DeleteName, StrNo::Pool(text)),
+        Op::DeleteGlobal => Instruction::Name(NameOp::DeleteGlobal, StrNo::Pool(text)),
+        Op::LoadAttr => Instruction::Name(NameOp::LoadAttr, StrNo::Pool(text)),
+        Op::LoadMethod => Instruction::Name(NameOp::LoadMethod, StrNo::Pool(text)),
+        Op::StoreAttr => Instruction::Name(NameOp::StoreAttr, StrNo::Pool(text)),
+        Op::ImportFrom => Instruction::Name(NameOp::ImportFrom, StrNo::Pool(text)),
+        Op::ImportName => Instruction::Import(text),
         _ => unreachable!(),
     }
 }

@@ -10,11 +10,11 @@ use Rattle.vm_fetching.specs.Shows.{Shows}
 use Rattle.vm_fetching.proofs.Showing as showing
 use Rattle.vm_fetching.proofs.fetching.shown.Goals as goal
 
-pub plain_op-requires : goal.plain_op-requires
-plain_op-requires c = subst IsEncodable c.in-Plain.is c.requires.reads.3.encodable
+pub plain-requires : goal.plain-requires
+plain-requires c = subst IsEncodable c.in-Plain.is c.requires.reads.3.encodable
 
-pub name_op-requires : goal.name_op-requires
-name_op-requires c = (subst IsEncodable c.in-Name.is c.requires.reads.3.encodable).0
+pub named-requires : goal.named-requires
+named-requires c = (subst IsEncodable c.in-Name.is c.requires.reads.3.encodable).0
 
 pub text_of-requires : goal.text_of-requires
 text_of-requires c =
@@ -55,14 +55,14 @@ jump_target-requires-in-Unwind c =
 pub returns-in-Plain : goal.returns-in-Plain
 returns-in-Plain c tables m l of there listed st r =
     let shelf = c.args.library.now in
-    subst (λ (z : Instr). Shows shelf m tables c.args.row.now l c.args.end z (fetched.Plain c.plain_op.result)) (sym c.in-Plain.is)
-    (showing.shows_plain shelf c.args.module_number c.args.row.now c.requires.row m there l listed c.args.at c.args.end tables of c.in-Plain.op c.plain_op.result c.plain_op.ensures)
+    subst (λ (z : Instr). Shows shelf m tables c.args.row.now l c.args.end z c.plain.result) (sym c.in-Plain.is)
+    (showing.shows_plain shelf c.args.module_number c.args.row.now c.requires.row m there l listed c.args.at c.args.end tables of c.in-Plain.op c.plain.result c.plain.ensures)
 
 pub returns-in-Name : goal.returns-in-Name
 returns-in-Name c tables m l of there listed st r =
     let shelf = c.args.library.now in
-    subst (λ (z : Instr). Shows shelf m tables c.args.row.now l c.args.end z (fetched.Name c.name_op.result c.text_of.result)) (sym c.in-Name.is)
-    (showing.shows_name shelf c.args.module_number c.args.row.now c.requires.row m there l listed c.args.at c.args.end tables of c.in-Name.op c.name_op.result c.in-Name.n c.text_of.result c.name_op.ensures c.text_of.ensures.text c.text_of.ensures.pooled
+    subst (λ (z : Instr). Shows shelf m tables c.args.row.now l c.args.end z c.named.result) (sym c.in-Name.is)
+    (showing.shows_name shelf c.args.module_number c.args.row.now c.requires.row m there l listed c.args.at c.args.end tables of c.in-Name.op c.in-Name.n c.text_of.result c.named.result c.named.ensures c.text_of.ensures
     (subst (λ z. Reads l c.args.at z c.args.end) c.in-Name.is r))
 
 pub returns-in-Num : goal.returns-in-Num
