@@ -27,7 +27,7 @@ use Rattle.state_exits.specs.Running.{stepped_with}
 
 -- IMPORT_NAME of the text that has this number, as it is fetched
 abbrev pub fetched_import : (name end : ℕ) → Fetched
-fetched_import name end = record { instruction = fetched.Name name_ops.ImportName (strs.Pool name); end = end }
+fetched_import name end = record { instruction = fetched.Import name; end = end }
 
 -- no call changes, and the same modules are registered
 pub record Stays (earlier later : Registry) (old new : Calls) : Type 0 where

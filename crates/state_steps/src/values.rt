@@ -9,7 +9,7 @@ ghost use Rattle.state_values.specs.vm_states.Acting.{RunsOver};
 ghost use Rattle.state_exits.specs.Running.{RunsWith};
 ghost use Rattle.state_values.specs.Keeping.{ActsKeeping};
 ghost use Rattle.state_steps.specs.Comes.{ComesOnBehind};
-ghost use Rattle.state_steps.specs.Values.{UsesName, ActsOnValues, value_visits};
+ghost use Rattle.state_steps.specs.Values.{ActsOnValues, value_visits};
 
 use arena_heap::{Arena, Constants, StrNo, Value};
 use prim_faults::Stop;
@@ -31,7 +31,6 @@ fn name_or_attribute<C: Constants>(
     name: StrNo,
     end: u32,
 ) -> Result<(), Stop>
-    requires operation { UsesName op }
     requires runs { under C.Constants consts.now RunsOver arena.old frames.old (record { instruction = fetched_as.Name op name; end = end }) }
     ensures acts { under C.Constants consts.now ActsKeeping
         (record { instruction = fetched_as.Name op name; end = end }) 0 arena.old arena.new frames.old frames.new result }
@@ -48,7 +47,6 @@ fn name_or_attribute<C: Constants>(
         NameOp::LoadMethod => attribute_on(frames, arena, consts, op, name, end),
         NameOp::StoreAttr => attribute_on(frames, arena, consts, op, name, end),
         NameOp::ImportFrom => attribute_on(frames, arena, consts, op, name, end),
-        NameOp::ImportName => unreachable!(),
     }
 }
 
@@ -81,6 +79,11 @@ fn act_on<C: Constants>(
         Instruction::Unwind { target, byte } => {
             unwind_jump(frames, arena, consts, target, byte, end)
         }
+        Instruction::Leave(_)
+        | Instruction::Finish
+        | Instruction::Make(_, _)
+        | Instruction::Import(_)
+        | Instruction::Call(_, _) => unreachable!(),
     }
 }
 

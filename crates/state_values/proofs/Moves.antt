@@ -43,12 +43,8 @@ goes_on plain_ops.RotTwo h = tt
 goes_on plain_ops.RotThree h = tt
 goes_on plain_ops.LoadSubscr h = absurd h
 goes_on plain_ops.StoreSubscr h = absurd h
-goes_on plain_ops.EndFinally h = absurd h
 goes_on plain_ops.GetIterStack h = absurd h
 goes_on plain_ops.StoreMap h = absurd h
-goes_on plain_ops.ReturnValue h = absurd h
-goes_on plain_ops.RaiseLast h = absurd h
-goes_on plain_ops.RaiseObj h = absurd h
 
 -- what is found on the frame of a call whose slots are counted
 module _ (plan : Plan) (library : Library) (code : Code) (frame : Frame) (c : Call) (cs : List Call) (slot_room entry_room : ℕ)
@@ -68,12 +64,8 @@ module _ (plan : Plan) (library : Library) (code : Code) (frame : Frame) (c : Ca
   needs plain_ops.RotThree h f = let n = ap length f.are in omega (arith, n, count)
   needs plain_ops.LoadSubscr h f = absurd h
   needs plain_ops.StoreSubscr h f = absurd h
-  needs plain_ops.EndFinally h f = absurd h
   needs plain_ops.GetIterStack h f = absurd h
   needs plain_ops.StoreMap h f = absurd h
-  needs plain_ops.ReturnValue h f = absurd h
-  needs plain_ops.RaiseLast h f = absurd h
-  needs plain_ops.RaiseObj h f = absurd h
 
 pub finds_needs : ((t : Tables) (c : Call) → length (frame_of (view_of t) c).slots ≡ length c.slots)
     → (p : Program) (s : Calls) (row : Row) (op : PlainOp) (end : ℕ) → IsRunning p s → (r : IsReady p s row (fetched_plain op end)) → MovesSlots op → Needs op s

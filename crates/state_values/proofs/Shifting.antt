@@ -69,12 +69,8 @@ module _ (texts : StrNo → Option (List ℕ)) (tuples : ConstNo → Option (Lis
   slots_known plain_ops.RotThree st k = turned_three_known st k
   slots_known plain_ops.LoadSubscr st k = k
   slots_known plain_ops.StoreSubscr st k = k
-  slots_known plain_ops.EndFinally st k = k
   slots_known plain_ops.GetIterStack st k = k
   slots_known plain_ops.StoreMap st k = k
-  slots_known plain_ops.ReturnValue st k = k
-  slots_known plain_ops.RaiseLast st k = k
-  slots_known plain_ops.RaiseObj st k = k
 
   module _ (old new : Calls) where
     -- at an offset, with other slots

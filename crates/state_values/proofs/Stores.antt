@@ -38,10 +38,6 @@ either P short long number_ops.BuildTuple h = absurd h
 either P short long number_ops.BuildList h = absurd h
 either P short long number_ops.BuildMap h = absurd h
 either P short long number_ops.UnpackSequence h = absurd h
-either P short long number_ops.MakeFunction h = absurd h
-either P short long number_ops.MakeFunctionDefargs h = absurd h
-either P short long number_ops.CallFunction h = absurd h
-either P short long number_ops.CallMethod h = absurd h
 
 pub stores : (op : NumberOp) (n end : ℕ) (old new : List Call) → StoresLocal op
     → ((tables : Tables) (w : PlainWorld) → IsNext tables end old → Steps tables w (Plain (instrs.Num ops.StoreFast n)) old new)

@@ -30,12 +30,8 @@ MovesSlots plain_ops.RotTwo = Unit {0}
 MovesSlots plain_ops.RotThree = Unit {0}
 MovesSlots plain_ops.LoadSubscr = ⊥
 MovesSlots plain_ops.StoreSubscr = ⊥
-MovesSlots plain_ops.EndFinally = ⊥
 MovesSlots plain_ops.GetIterStack = ⊥
 MovesSlots plain_ops.StoreMap = ⊥
-MovesSlots plain_ops.ReturnValue = ⊥
-MovesSlots plain_ops.RaiseLast = ⊥
-MovesSlots plain_ops.RaiseObj = ⊥
 
 -- the slots behind it. No other operation moves them
 abbrev pub moved_slots : PlainOp → List Slot → List Slot
@@ -50,12 +46,8 @@ moved_slots plain_ops.RotTwo st = turned_two st
 moved_slots plain_ops.RotThree st = turned_three st
 moved_slots plain_ops.LoadSubscr st = st
 moved_slots plain_ops.StoreSubscr st = st
-moved_slots plain_ops.EndFinally st = st
 moved_slots plain_ops.GetIterStack st = st
 moved_slots plain_ops.StoreMap st = st
-moved_slots plain_ops.ReturnValue st = st
-moved_slots plain_ops.RaiseLast st = st
-moved_slots plain_ops.RaiseObj st = st
 
 -- the operation as it is fetched
 abbrev pub fetched_plain : PlainOp → (end : ℕ) → Fetched

@@ -1,47 +1,6 @@
--- Operations that act on values and frames, and leave the running call running. The others make functions, call, raise, return,
--- end a finally or import a module.
-use Rattle.vm_states.specs.vm_fetching.declared.operations.PlainOp.{PlainOp}
-use Rattle.vm_states.specs.vm_fetching.declared.operations.PlainOp.TheVariants as plain_ops
-use Rattle.vm_states.specs.vm_fetching.declared.operations.NumberOp.{NumberOp}
-use Rattle.vm_states.specs.vm_fetching.declared.operations.NumberOp.TheVariants as number_ops
+-- Operations that name a text, by whether it is of the running call's module or an attribute.
 use Rattle.vm_states.specs.vm_fetching.declared.operations.NameOp.{NameOp}
 use Rattle.vm_states.specs.vm_fetching.declared.operations.NameOp.TheVariants as name_ops
-
--- the operations without an operand that act on values and frames
-abbrev pub IsPlainOperation : PlainOp → Type 0
-IsPlainOperation plain_ops.LoadConstFalse = Unit {0}
-IsPlainOperation plain_ops.LoadConstNone = Unit {0}
-IsPlainOperation plain_ops.LoadConstTrue = Unit {0}
-IsPlainOperation plain_ops.LoadNull = Unit {0}
-IsPlainOperation plain_ops.LoadSubscr = Unit {0}
-IsPlainOperation plain_ops.StoreSubscr = Unit {0}
-IsPlainOperation plain_ops.DupTop = Unit {0}
-IsPlainOperation plain_ops.DupTopTwo = Unit {0}
-IsPlainOperation plain_ops.PopTop = Unit {0}
-IsPlainOperation plain_ops.RotTwo = Unit {0}
-IsPlainOperation plain_ops.RotThree = Unit {0}
-IsPlainOperation plain_ops.GetIterStack = Unit {0}
-IsPlainOperation plain_ops.StoreMap = Unit {0}
-IsPlainOperation plain_ops.EndFinally = ⊥
-IsPlainOperation plain_ops.ReturnValue = ⊥
-IsPlainOperation plain_ops.RaiseLast = ⊥
-IsPlainOperation plain_ops.RaiseObj = ⊥
-
--- the operations with a number that act on values and frames
-abbrev pub IsNumberOperation : NumberOp → Type 0
-IsNumberOperation number_ops.LoadFast = Unit {0}
-IsNumberOperation number_ops.LoadFastN = Unit {0}
-IsNumberOperation number_ops.StoreFast = Unit {0}
-IsNumberOperation number_ops.StoreFastN = Unit {0}
-IsNumberOperation number_ops.DeleteFast = Unit {0}
-IsNumberOperation number_ops.BuildTuple = Unit {0}
-IsNumberOperation number_ops.BuildList = Unit {0}
-IsNumberOperation number_ops.BuildMap = Unit {0}
-IsNumberOperation number_ops.UnpackSequence = Unit {0}
-IsNumberOperation number_ops.MakeFunction = ⊥
-IsNumberOperation number_ops.MakeFunctionDefargs = ⊥
-IsNumberOperation number_ops.CallFunction = ⊥
-IsNumberOperation number_ops.CallMethod = ⊥
 
 -- the text that is loaded, and names of the running call's module
 abbrev pub IsNameOperation : NameOp → Type 0
@@ -55,7 +14,6 @@ IsNameOperation name_ops.DeleteGlobal = Unit {0}
 IsNameOperation name_ops.LoadAttr = ⊥
 IsNameOperation name_ops.LoadMethod = ⊥
 IsNameOperation name_ops.StoreAttr = ⊥
-IsNameOperation name_ops.ImportName = ⊥
 IsNameOperation name_ops.ImportFrom = ⊥
 
 -- attributes of a value
@@ -71,4 +29,3 @@ IsAttributeOperation name_ops.StoreName = ⊥
 IsAttributeOperation name_ops.StoreGlobal = ⊥
 IsAttributeOperation name_ops.DeleteName = ⊥
 IsAttributeOperation name_ops.DeleteGlobal = ⊥
-IsAttributeOperation name_ops.ImportName = ⊥

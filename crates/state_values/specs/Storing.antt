@@ -13,7 +13,3 @@ StoresLocal number_ops.BuildTuple = ⊥
 StoresLocal number_ops.BuildList = ⊥
 StoresLocal number_ops.BuildMap = ⊥
 StoresLocal number_ops.UnpackSequence = ⊥
-StoresLocal number_ops.MakeFunction = ⊥
-StoresLocal number_ops.MakeFunctionDefargs = ⊥
-StoresLocal number_ops.CallFunction = ⊥
-StoresLocal number_ops.CallMethod = ⊥

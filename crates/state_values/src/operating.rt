@@ -6,7 +6,7 @@ ghost use Rattle.vm_states.specs.vm_fetching.declared.instruction.Instruction.Th
 ghost use Rattle.state_values.specs.Moving.{fetched_plain};
 ghost use Rattle.vm_states.specs.Acting.{RunsOver};
 ghost use Rattle.state_values.specs.Keeping.{ActsKeeping};
-ghost use Rattle.state_values.specs.Operations.{IsPlainOperation, IsNumberOperation, IsNameOperation, IsAttributeOperation};
+ghost use Rattle.state_values.specs.Operations.{IsNameOperation, IsAttributeOperation};
 
 use crate::attributes::{import_from, load_attr, load_method, store_attr};
 use crate::branching::test_jump;
@@ -32,7 +32,6 @@ pub fn plain_on<C: Constants>(
     op: PlainOp,
     end: u32,
 ) -> Result<(), Stop>
-    requires operation { IsPlainOperation op }
     requires runs { under C.Constants consts.now RunsOver arena.old frames.old (fetched_plain op end) }
     ensures acts { under C.Constants consts.now ActsKeeping (fetched_plain op end) 0 arena.old arena.new frames.old frames.new result }
 {
@@ -50,9 +49,6 @@ pub fn plain_on<C: Constants>(
         PlainOp::PopTop => move_on(frames, arena, consts, op, end),
         PlainOp::RotTwo => move_on(frames, arena, consts, op, end),
         PlainOp::RotThree => move_on(frames, arena, consts, op, end),
-        PlainOp::EndFinally | PlainOp::ReturnValue | PlainOp::RaiseLast | PlainOp::RaiseObj => {
-            unreachable!()
-        }
     }
 }
 
@@ -67,7 +63,6 @@ pub fn number_on<C: Constants>(
     n: u32,
     end: u32,
 ) -> Result<(), Stop>
-    requires operation { IsNumberOperation op }
     requires places { frames.old.slot_room ≤ length items.old }
     requires runs { under C.Constants consts.now RunsOver arena.old frames.old (record { instruction = fetched.Number op n; end = end }) }
     ensures acts { under C.Constants consts.now ActsKeeping
@@ -88,10 +83,6 @@ pub fn number_on<C: Constants>(
         NumberOp::UnpackSequence => {
             unpack_sequence(frames, arena, consts, &mut items[..n as usize], n, end)
         }
-        NumberOp::MakeFunction
-        | NumberOp::MakeFunctionDefargs
-        | NumberOp::CallFunction
-        | NumberOp::CallMethod => unreachable!(),
     }
 }
 
@@ -117,11 +108,8 @@ pub fn name_on<C: Constants>(
         NameOp::StoreGlobal => store_global(frames, arena, consts, name, end),
         NameOp::DeleteName => delete_name(frames, arena, consts, name, end),
         NameOp::DeleteGlobal => delete_global(frames, arena, consts, name, end),
-        NameOp::LoadAttr
-        | NameOp::LoadMethod
-        | NameOp::StoreAttr
-        | NameOp::ImportName
-        | NameOp::ImportFrom => unreachable!(),
+        NameOp::LoadAttr | NameOp::LoadMethod | NameOp::StoreAttr | NameOp::ImportFrom =>
+            unreachable!(),
     }
 }
 
@@ -150,8 +138,7 @@ pub fn attribute_on<C: Constants>(
         | NameOp::StoreName
         | NameOp::StoreGlobal
         | NameOp::DeleteName
-        | NameOp::DeleteGlobal
-        | NameOp::ImportName => unreachable!(),
+        | NameOp::DeleteGlobal => unreachable!(),
     }
 }
 

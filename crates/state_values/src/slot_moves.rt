@@ -34,14 +34,8 @@ fn act(frames: &mut Frames, op: PlainOp, end: u32)
         PlainOp::PopTop => pop_top(frames, end),
         PlainOp::RotTwo => rot_two(frames, end),
         PlainOp::RotThree => rot_three(frames, end),
-        PlainOp::LoadSubscr
-        | PlainOp::StoreSubscr
-        | PlainOp::EndFinally
-        | PlainOp::GetIterStack
-        | PlainOp::StoreMap
-        | PlainOp::ReturnValue
-        | PlainOp::RaiseLast
-        | PlainOp::RaiseObj => unreachable!(),
+        PlainOp::LoadSubscr | PlainOp::StoreSubscr | PlainOp::GetIterStack | PlainOp::StoreMap =>
+            unreachable!(),
     }
 }
 

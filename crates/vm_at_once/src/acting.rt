@@ -41,13 +41,7 @@ fn plain_at_once<C: Constants>(
         PlainOp::RotTwo => done(move_on(frames, arena, consts, op, end)),
         PlainOp::RotThree => done(move_on(frames, arena, consts, op, end)),
         PlainOp::LoadSubscr => load_item(frames, arena, consts, end),
-        PlainOp::StoreSubscr
-        | PlainOp::EndFinally
-        | PlainOp::GetIterStack
-        | PlainOp::StoreMap
-        | PlainOp::ReturnValue
-        | PlainOp::RaiseLast
-        | PlainOp::RaiseObj => None,
+        PlainOp::StoreSubscr | PlainOp::GetIterStack | PlainOp::StoreMap => None,
     }
 }
 
@@ -79,6 +73,11 @@ pub fn act_at_once<C: Constants>(
             target: _target,
             byte: _byte,
         } => None,
+        Instruction::Leave(_op) => None,
+        Instruction::Finish => None,
+        Instruction::Make(_op, _number) => None,
+        Instruction::Import(_name) => None,
+        Instruction::Call(_op, _number) => None,
     }
 }
 

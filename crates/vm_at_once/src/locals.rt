@@ -106,10 +106,6 @@ pub(crate) fn local_at_once<C: Constants>(
         | NumberOp::BuildTuple
         | NumberOp::BuildList
         | NumberOp::BuildMap
-        | NumberOp::UnpackSequence
-        | NumberOp::MakeFunction
-        | NumberOp::MakeFunctionDefargs
-        | NumberOp::CallFunction
-        | NumberOp::CallMethod => None,
+        | NumberOp::UnpackSequence => None,
     }
 }

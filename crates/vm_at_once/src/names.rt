@@ -73,7 +73,6 @@ pub(crate) fn name_at_once<C: Constants>(
         | NameOp::LoadAttr
         | NameOp::LoadMethod
         | NameOp::StoreAttr
-        | NameOp::ImportName
         | NameOp::ImportFrom => None,
     }
 }

@@ -3,11 +3,9 @@
 ghost use Rattle.std.specs.Prelude.{◌≡◌};
 ghost use Rattle.bc_library.specs.Constants.{items_at, text_at};
 ghost use Rattle.vm_kept.specs.state_calls.vm_fetching.declared.instruction.Instruction.TheVariants as fetched_as;
-ghost use Rattle.vm_kept.specs.state_calls.vm_fetching.declared.operations.NumberOp.TheVariants as number_ops;
-ghost use Rattle.vm_kept.specs.state_calls.vm_fetching.declared.operations.PlainOp.TheVariants as plain_ops;
+ghost use Rattle.vm_kept.specs.state_calls.vm_fetching.declared.operations.MakeOp.TheVariants as make_ops;
 ghost use Rattle.vm_kept.specs.state_exits.Importing.{fetched_import};
-ghost use Rattle.vm_kept.specs.state_exits.Running.{fetched_plain};
-ghost use Rattle.state_steps.specs.Leaves.{LeavesCall};
+ghost use Rattle.vm_kept.specs.state_exits.Running.{fetched_finish, fetched_leave};
 ghost use Rattle.state_steps.specs.Values.{ActsOnValues, value_visits};
 ghost use Rattle.vm_machine.specs.Acting.{Acted, HasFetched, Stepped};
 ghost use Rattle.vm_machine.specs.Forms.{HasForm, MakesNoVisits};
@@ -16,7 +14,7 @@ use crate::forms::Form;
 use arena_heap::StrNo;
 use bc_library::Library;
 use state_steps::{finish, import, leave, make, make_with, operate};
-use vm_at_once::{Fetched, PlainOp, Row, Rows};
+use vm_at_once::{Fetched, LeaveOp, Row, Rows};
 use vm_kept::{cause_law, step_law};
 use vm_starting::{NAME, Vm};
 
@@ -42,9 +40,8 @@ pub(crate) fn operate_on(vm: &mut Vm, library: &Library, row: &Row<'_>, fetched:
 
 /// Carries out a return or a raise.
 #[tactic(none)]
-fn leave_on(vm: &mut Vm, library: &Library, rows: &Rows<'_>, row: &Row<'_>, op: PlainOp, end: u32)
-    requires leaves { LeavesCall op }
-    requires fetched { HasFetched library.now vm.old row.now (fetched_plain op end) }
+fn leave_on(vm: &mut Vm, library: &Library, rows: &Rows<'_>, row: &Row<'_>, op: LeaveOp, end: u32)
+    requires fetched { HasFetched library.now vm.old row.now (fetched_leave op end) }
     requires rows { rows.now ≡ library.now }
     ensures { Acted library.now 0 vm.old vm.new }
 {
@@ -66,7 +63,7 @@ fn leave_on(vm: &mut Vm, library: &Library, rows: &Rows<'_>, row: &Row<'_>, op: 
 /// Carries out the end of a finally.
 #[tactic(none)]
 fn finish_on(vm: &mut Vm, library: &Library, rows: &Rows<'_>, row: &Row<'_>, end: u32)
-    requires fetched { HasFetched library.now vm.old row.now (fetched_plain plain_ops.EndFinally end) }
+    requires fetched { HasFetched library.now vm.old row.now (fetched_finish end) }
     requires rows { rows.now ≡ library.now }
     ensures { Acted library.now 0 vm.old vm.new }
 {
@@ -88,7 +85,7 @@ fn finish_on(vm: &mut Vm, library: &Library, rows: &Rows<'_>, row: &Row<'_>, end
 /// Carries out the making of a function without defaults.
 #[tactic(none)]
 fn make_on(vm: &mut Vm, library: &Library, rows: &Rows<'_>, row: &Row<'_>, number: u32, end: u32)
-    requires fetched { HasFetched library.now vm.old row.now (record { instruction = fetched_as.Number number_ops.MakeFunction number; end = end }) }
+    requires fetched { HasFetched library.now vm.old row.now (record { instruction = fetched_as.Make make_ops.MakeFunction number; end = end }) }
     requires rows { rows.now ≡ library.now }
     ensures { Acted library.now 0 vm.old vm.new }
 {
@@ -116,7 +113,7 @@ fn make_with_on(
     number: u32,
     end: u32,
 )
-    requires fetched { HasFetched library.now vm.old row.now (record { instruction = fetched_as.Number number_ops.MakeFunctionDefargs number; end = end }) }
+    requires fetched { HasFetched library.now vm.old row.now (record { instruction = fetched_as.Make make_ops.MakeFunctionDefargs number; end = end }) }
     requires rows { rows.now ≡ library.now }
     ensures { Acted library.now 0 vm.old vm.new }
 {

@@ -5,7 +5,7 @@ ghost use Rattle.mpy_io.specs.Count.{Counts};
 ghost use Rattle.port_set.specs.Counts.{CountsKeep};
 ghost use Rattle.vm_kept.specs.state_calls.vm_fetching.declared.instruction.Instruction.TheVariants as fetched_as;
 ghost use Rattle.vm_starting.specs.vm_states.Means.{Program};
-ghost use Rattle.vm_kept.specs.state_calls.Taken.{CallsValue, IsTaken};
+ghost use Rattle.vm_kept.specs.state_calls.Taken.{IsTaken};
 ghost use Rattle.vm_kept.specs.Kept.{HoldsKept};
 ghost use Rattle.vm_starting.specs.Programs.{IsProgramOf};
 ghost use Rattle.vm_starting.specs.Kept.{AreFetched};
@@ -22,7 +22,7 @@ use bc_library::Library;
 use mpy_io::{Failed, Port, Sink};
 use port_set::PortSet;
 use state_steps::call;
-use vm_at_once::{Fetched, NumberOp, Row, Rows, visits_binary_op};
+use vm_at_once::{CallOp, Fetched, Row, Rows, visits_binary_op};
 use vm_kept::{gives_law, methods_law, raises_law, step_law, take_call, visits_call_on};
 use vm_starting::{Cache, Invocation, Vm};
 
@@ -71,13 +71,12 @@ fn make_call<S: Sink, P: Port>(
     out: &mut S,
     ports: &mut PortSet<P>,
     row: &Row<'_>,
-    op: NumberOp,
+    op: CallOp,
     number: u32,
     end: u32,
     invocation: Invocation,
 ) -> Result<(), Failed>
-    requires calls { CallsValue op }
-    requires fetched { HasFetched library.now vm.old row.now (record { instruction = fetched_as.Number op number; end = end }) }
+    requires fetched { HasFetched library.now vm.old row.now (record { instruction = fetched_as.Call op number; end = end }) }
     requires rows { rows.now ≡ library.now }
     requires taken { IsTaken library.now op number vm.old.arena vm.old.frames vm.old.operands invocation }
     ensures kept { vm.new.end ≡ None → (p : Program) → IsProgramOf library.now p → HoldsKept p vm.new.arena.objects vm.new.frames }
@@ -123,13 +122,12 @@ fn step_call<S: Sink, P: Port>(
     out: &mut S,
     ports: &mut PortSet<P>,
     row: &Row<'_>,
-    op: NumberOp,
+    op: CallOp,
     number: u32,
     end: u32,
     most: u64,
 ) -> Result<u64, Failed>
-    requires calls { CallsValue op }
-    requires fetched { HasFetched library.now vm.old row.now (record { instruction = fetched_as.Number op number; end = end }) }
+    requires fetched { HasFetched library.now vm.old row.now (record { instruction = fetched_as.Call op number; end = end }) }
     requires rows { rows.now ≡ library.now }
     requires some { 0 < most }
     requires countable { vm.old.paid + most < 2 ^ 64 }

@@ -7,18 +7,12 @@ use Rattle.state_steps.specs.Values.{ActsOnValues}
 use Rattle.state_steps.proofs.Forms.{runs_at, acts_at}
 use Rattle.state_steps.proofs.values.act_on.Goals as goal
 
-pub plain_on-requires-clause-operation : goal.plain_on-requires-clause-operation
-plain_on-requires-clause-operation g c = subst ActsOnValues c.in-Plain.is c.requires.values
-
 pub plain_on-requires-clause-runs : goal.plain_on-requires-clause-runs
 plain_on-requires-clause-runs g c = runs_at (g.C.Constants.text_of c.args.consts.now) (g.C.Constants.items_of c.args.consts.now) c.args.fetched (fetched.Plain c.in-Plain.op) c.in-Plain.is c.args.arena.now c.args.frames.now c.requires.runs
 
 pub returns-in-Plain : goal.returns-in-Plain
 returns-in-Plain g c =
     record { acts = acts_at (g.C.Constants.text_of c.args.consts.now) (g.C.Constants.items_of c.args.consts.now) c.args.fetched (fetched.Plain c.in-Plain.op) c.in-Plain.is c.args.arena.now c.plain_on.new.arena c.args.frames.now c.plain_on.new.frames c.plain_on.result c.plain_on.ensures.acts }
-
-pub number_on-requires-clause-operation : goal.number_on-requires-clause-operation
-number_on-requires-clause-operation g c = subst ActsOnValues c.in-Number.is c.requires.values
 
 pub number_on-requires-clause-places : goal.number_on-requires-clause-places
 number_on-requires-clause-places g c = c.requires.places
@@ -60,9 +54,6 @@ binary_op-requires g c = record { runs = runs_at (g.C.Constants.text_of c.args.c
 pub returns-in-Binary : goal.returns-in-Binary
 returns-in-Binary g c =
     record { acts = acts_at (g.C.Constants.text_of c.args.consts.now) (g.C.Constants.items_of c.args.consts.now) c.args.fetched (fetched.Binary c.in-Binary.number) c.in-Binary.is c.args.arena.now c.binary_op.new.arena c.args.frames.now c.binary_op.new.frames c.binary_op.result c.binary_op.ensures.acts }
-
-pub name_or_attribute-requires-clause-operation : goal.name_or_attribute-requires-clause-operation
-name_or_attribute-requires-clause-operation g c = subst ActsOnValues c.in-Name.is c.requires.values
 
 pub name_or_attribute-requires-clause-runs : goal.name_or_attribute-requires-clause-runs
 name_or_attribute-requires-clause-runs g c = runs_at (g.C.Constants.text_of c.args.consts.now) (g.C.Constants.items_of c.args.consts.now) c.args.fetched (fetched.Name c.in-Name.op c.in-Name.name) c.in-Name.is c.args.arena.now c.args.frames.now c.requires.runs

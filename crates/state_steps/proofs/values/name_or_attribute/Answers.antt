@@ -1,6 +1,5 @@
 use Rattle.std.proofs.Common.{sym, subst}
 use Rattle.state_values.specs.Operations.{IsNameOperation, IsAttributeOperation}
-use Rattle.state_steps.specs.Values.{UsesName}
 use Rattle.state_steps.proofs.values.name_or_attribute.Goals as goal
 
 pub name_on-requires-clause-operation : goal.name_on-requires-clause-operation
@@ -101,9 +100,3 @@ attribute_on-requires-in-ImportFrom-clause-runs g c = c.requires.runs
 
 pub returns-in-ImportFrom : goal.returns-in-ImportFrom
 returns-in-ImportFrom g c = record { acts = c.attribute_on-in-ImportFrom.ensures.acts }
-
-pub unreachable-requires : goal.unreachable-requires
-unreachable-requires g c = subst UsesName c.in-ImportName.is c.requires.operation
-
-pub unreachable-unreachable : goal.unreachable-unreachable
-unreachable-unreachable g c = subst UsesName c.in-ImportName.is c.requires.operation

@@ -3,10 +3,6 @@ use Rattle.vm_machine.specs.Forms.{IsWork}
 use Rattle.vm_machine.proofs.AtOnce.{left}
 use Rattle.vm_machine.proofs.at_once.act_unpaid.Goals as goal
 
-pub work_of-requires : goal.work_of-requires
-work_of-requires c =
-    let h = c.requires.fetched.1 in (h.program.shelf, (h.ready h.program h.is_program).text)
-
 pub step_act-requires-clause-form : goal.step_act-requires-clause-form
 step_act-requires-clause-form c = (subst (IsWork c.args.fetched.instruction) c.in-Acts.is c.work_of.ensures).0
 

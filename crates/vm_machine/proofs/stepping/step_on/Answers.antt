@@ -7,9 +7,6 @@ use Rattle.vm_machine.proofs.Fetched.{at_form}
 use Rattle.vm_machine.proofs.Runs.{stepped_runs}
 use Rattle.vm_machine.proofs.stepping.step_on.Goals as goal
 
-pub work_of-requires : goal.work_of-requires
-work_of-requires g c = let h = c.requires.fetched in (h.program.shelf, (h.ready h.program h.is_program).text)
-
 pub step_act-requires-clause-form : goal.step_act-requires-clause-form
 step_act-requires-clause-form g c = (subst (IsWork c.args.fetched.instruction) c.in-Acts.is c.work_of.ensures).0
 
@@ -34,13 +31,10 @@ step_binary-requires-clause-some g c = c.requires.some
 pub step_binary-requires-clause-countable : goal.step_binary-requires-clause-countable
 step_binary-requires-clause-countable g c = c.requires.countable
 
-pub step_call-requires-clause-calls : goal.step_call-requires-clause-calls
-step_call-requires-clause-calls g c = (subst (IsWork c.args.fetched.instruction) c.in-Calls.is c.work_of.ensures).1
-
 pub step_call-requires-clause-fetched : goal.step_call-requires-clause-fetched
 step_call-requires-clause-fetched g c =
-    at_form c.args.library.now c.args.vm.now c.args.row.now c.args.fetched c.requires.fetched (fetched.Number c.in-Calls.op c.in-Calls.number)
-    (subst (IsWork c.args.fetched.instruction) c.in-Calls.is c.work_of.ensures).0
+    at_form c.args.library.now c.args.vm.now c.args.row.now c.args.fetched c.requires.fetched (fetched.Call c.in-Calls.op c.in-Calls.number)
+    (subst (IsWork c.args.fetched.instruction) c.in-Calls.is c.work_of.ensures)
 
 pub step_call-requires-clause-rows : goal.step_call-requires-clause-rows
 step_call-requires-clause-rows g c = c.requires.rows
