@@ -98,7 +98,7 @@ module _ (p : Program) (row : Row) (means : Means p) (shelf : Shelf) (shelf_is :
   built_again rows laws read result put =
       let own : IsFetchedAt p.shelf Read r.first = subst (λ (z : Shelf). IsFetchedAt z Read r.first) (sym shelf_is) (first_of (IsFetchedAt shelf Read) s.calls r.first r.others r.are read) in
       puttings.put_state laws p row means before behind s new Read state r call.size result (places.over p means shelf shelf_is (λ t u. puttings.Put t u before behind end call.size s new result) put)
-      (λ v ok moved. value_runs p means s r.first r.others r.are state.running rows op number end calls own call.size taken.size (first_of _ s.calls r.first r.others r.are r.next) v new moved (r.begins tt))
+      (λ v ok moved. value_runs p means s r.first r.others r.are state.running rows op number end own call.size taken.size (first_of _ s.calls r.first r.others r.are r.next) v new moved (r.begins tt))
 
 -- a call that puts nothing and calls no port
 pub quiet_heap : (p : Program) (place : Place) (next size : ℕ) (callee : Callee) (given : Given) (before behind : Heap Value ℕ) (s new : Calls) (result : Result (Unit {0}) Stop)

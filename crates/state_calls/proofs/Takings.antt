@@ -68,7 +68,7 @@ module _ (laws : Laws) (plan : Plan) (library : Library) (code : Code) (t : Tabl
       either (λ o. FindsNumber plan library code (frame_of (view_of t) c) (call_op o) number → operands_count number ≤ length c.slots)
       (λ g. let h = function_there g in let few = slice_get_within c.slots (operands_count number) (slots.Value h.0) h.1 in omega (arith, few))
       (λ g. let h = method_there g methods in let few = slice_get_within c.slots (operands_count number) h.upper h.upper_there in omega (arith, few))
-      op calls f
+      op f
 
 -- the slots of the first call are within the room that its plan asks for
 pub slots_within : Within → ((t : Tables) (c : Call) → length (frame_of (view_of t) c).slots ≡ length c.slots)
@@ -129,7 +129,7 @@ module _ (laws : Laws) (within : Within) (count : (t : Tables) (c : Call) → le
         (operands_there laws Its h.runs.program.library h.runs.ready.code h.runs.program.tables It number op h.runs.ready.finds (first_of (λ c. HasMethods c.slots) s.calls It h.runs.ready.others h.runs.ready.are methods))
 
     abbrev FindsAs : CallOp → Type 0
-    FindsAs o = FindsNumber Its h.runs.program.library h.runs.ready.code (frame_of (view_of h.runs.program.tables) It) (number_op o) number
+    FindsAs o = FindsNumber Its h.runs.program.library h.runs.ready.code (frame_of (view_of h.runs.program.tables) It) (call_op o) number
 
     pub its_function : op ≡ call_ops.CallFunction → (v : Value) × (slice_get (running_slots s.calls) (operands_count number) ≡ Some (slots.Value v))
     its_function e =
