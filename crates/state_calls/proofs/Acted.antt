@@ -26,7 +26,7 @@ use Rattle.vm_states.specs.frame_moves.Shown.{Tables, IsNext}
 use Rattle.vm_states.specs.frame_moves.Outcomes.{world_of, outcome_of, Does}
 use Rattle.vm_states.specs.vm_fetching.declared.operations.CallOp.{CallOp}
 use Rattle.vm_states.specs.vm_fetching.declared.instruction.Fetched.{Fetched}
-use Rattle.vm_states.specs.vm_fetching.declared.instruction.Instruction.TheVariants as fetched
+use Rattle.vm_states.specs.vm_fetching.Instructions as fetched
 use Rattle.vm_states.specs.vm_fetching.Operations.{call_op}
 use Rattle.frame_calls.specs.declared.calling.Invocation.{Invocation}
 use Rattle.frame_calls.specs.Built.{ActsBuilt, IsCalled}
@@ -53,12 +53,12 @@ some_calls [] n some there = absurd (omega (arith, some, there))
 some_calls (c ∷ cs) n some there = omega arith
 
 module _ (p : Program) (row : Row) (means : Means p) (shelf : Shelf) (shelf_is : p.shelf ≡ shelf) (op : CallOp) (number end : ℕ) (before behind : Heap Value ℕ) (s new : Calls)
-    (state : IsState p before.objects s) (r : IsReady p s row (record { instruction = fetched.Call op number; end = end })) (given : Given) (call : Invocation) (taken : IsTaken shelf op number before s given call) where
+    (state : IsState p before.objects s) (r : IsReady p s row (record { instruction = fetched.call op number; end = end })) (given : Given) (call : Invocation) (taken : IsTaken shelf op number before s given call) where
   abbrev It : Item
   It = Plain (instrs.Num (call_op op) number)
 
   abbrev Read : Fetched
-  Read = record { instruction = fetched.Call op number; end = end }
+  Read = record { instruction = fetched.call op number; end = end }
 
   -- a method
   module _ (object : Value) (method : Builtin) (is : call.callee ≡ callees.Method object method) (result : Result (Unit {0}) Stop) where
@@ -110,7 +110,7 @@ quiet_heap p place next size callee given before behind s new (Err stop) comes =
 
 -- and comes to that, with the output and the ports
 pub built_comes : {S : Type 0} (told : S → Option (List ℕ)) (count : S → ℕ) (p : Program) (row : Row) (means : Means p) (shelf : Shelf) (shelf_is : p.shelf ≡ shelf) (op : CallOp) (number end : ℕ) (before behind : Seen S) (s new : Calls)
-    (r : IsReady p s row (record { instruction = fetched.Call op number; end = end })) (given : Given) (call : Invocation) (taken : IsTaken shelf op number before.heap s given call)
+    (r : IsReady p s row (record { instruction = fetched.call op number; end = end })) (given : Given) (call : Invocation) (taken : IsTaken shelf op number before.heap s given call)
     (b : Builtin) (is : call.callee ≡ callees.Built b) (result : Result (Unit {0}) CallStop)
     → ((layout : Layout) (library : Library) (item : Item) (w : PlainWorld) → Invokes (tables_of (text_at shelf) (items_at shelf) layout) item call.size before.heap s.calls given.args given.keys (callees.Built b)
     → IsNext (tables_of (text_at shelf) (items_at shelf) layout) end s.calls → (IsOfPorts b → Tell before.ports w.ports)
@@ -119,16 +119,16 @@ pub built_comes : {S : Type 0} (told : S → Option (List ℕ)) (count : S → �
     → (w : PlainWorld) → told before.out ≡ Some w.output → Tell before.ports w.ports → CallComes told count p r.place (callees.Built b) given before behind s new w result
 built_comes told count p row means shelf shelf_is op number end before behind s new r given call taken b is result acts is_called w told_is tell =
     let item : Item = Plain (instrs.Num (call_op op) number) in
-    built told count p row s new (record { instruction = fetched.Call op number; end = end }) r given before behind b call.size w told_is tell result
+    built told count p row s new (record { instruction = fetched.call op number; end = end }) r given before behind b call.size w told_is tell result
     (with_tables p means shelf shelf_is
     (λ (t : Tables). Invokes t item call.size before.heap s.calls given.args given.keys (callees.Built b) → IsNext t end s.calls → ActsBuilt told count t p.library item call.size end b given.args given.keys before behind s.calls new.calls w result)
     (λ layout i n. acts layout p.library item w i n (λ of_ports. tell)) (invokes_in p means shelf shelf_is op number before.heap s given call taken (callees.Built b) is) r.next)
-    (decided told count p row s new (record { instruction = fetched.Call op number; end = end }) r given before behind b call.size shelf w tell result
+    (decided told count p row s new (record { instruction = fetched.call op number; end = end }) r given before behind b call.size shelf w tell result
     (places.over p means shelf shelf_is (λ t u. IsCalled told count t u before behind given.args given.keys b result) is_called))
 
 -- and so does the heap, whatever these tell
 pub built_heap : {S : Type 0} (told : S → Option (List ℕ)) (count : S → ℕ) (p : Program) (row : Row) (means : Means p) (shelf : Shelf) (shelf_is : p.shelf ≡ shelf) (op : CallOp) (number end : ℕ) (before behind : Seen S) (s new : Calls)
-    (r : IsReady p s row (record { instruction = fetched.Call op number; end = end })) (given : Given) (call : Invocation) (taken : IsTaken shelf op number before.heap s given call)
+    (r : IsReady p s row (record { instruction = fetched.call op number; end = end })) (given : Given) (call : Invocation) (taken : IsTaken shelf op number before.heap s given call)
     (b : Builtin) (is : call.callee ≡ callees.Built b) (result : Result (Unit {0}) CallStop)
     → ((layout : Layout) (library : Library) (item : Item) (w : PlainWorld) → Invokes (tables_of (text_at shelf) (items_at shelf) layout) item call.size before.heap s.calls given.args given.keys (callees.Built b)
     → IsNext (tables_of (text_at shelf) (items_at shelf) layout) end s.calls → (IsOfPorts b → Tell before.ports w.ports)
@@ -137,7 +137,7 @@ pub built_heap : {S : Type 0} (told : S → Option (List ℕ)) (count : S → �
     → HeapComes p r.place end call.size before.heap behind.heap s new result
 built_heap told count p row means shelf shelf_is op number end before behind s new r given call taken b is result acts is_called moved =
     let item : Item = Plain (instrs.Num (call_op op) number) in
-    heap_built told count p row s new (record { instruction = fetched.Call op number; end = end }) r given before behind b call.size shelf result
+    heap_built told count p row s new (record { instruction = fetched.call op number; end = end }) r given before behind b call.size shelf result
     (λ w tell.
     with_tables p means shelf shelf_is
     (λ (t : Tables). Invokes t item call.size before.heap s.calls given.args given.keys (callees.Built b) → IsNext t end s.calls → ActsBuilt told count t p.library item call.size end b given.args given.keys before behind s.calls new.calls w result)

@@ -36,7 +36,7 @@ use Rattle.vm_states.proofs.frame_moves_lemmas.Stepping.{goes_to}
 use Rattle.vm_states.specs.vm_fetching.declared.operations.CallOp.{CallOp}
 use Rattle.vm_states.specs.vm_fetching.declared.operations.CallOp.TheVariants as call_ops
 use Rattle.vm_states.specs.vm_fetching.declared.instruction.Fetched.{Fetched}
-use Rattle.vm_states.specs.vm_fetching.declared.instruction.Instruction.TheVariants as fetched
+use Rattle.vm_states.specs.vm_fetching.Instructions as fetched
 use Rattle.vm_states.specs.vm_fetching.Operations.{call_op}
 use Rattle.vm_states.specs.vm_fetching.Shows.{item_of_fetched}
 use Rattle.frame_calls.specs.Operands.{operands_count}
@@ -81,7 +81,7 @@ module _ (p : Program) (means : Means p) (s : Calls) (c : Call) (cs : List Call)
 
   module _ (laws : places.Laws) (op : CallOp) (number end : ℕ) where
     abbrev Read : Fetched
-    Read = record { instruction = fetched.Call op number; end = end }
+    Read = record { instruction = fetched.call op number; end = end }
 
     -- the line that the first call stands at
     line_is : IsFetchedAt p.shelf Read c → (l : Line) × (slice_get first_fits.0.code.lines (position_of (view_of p.tables) c) ≡ Some l) × (l.item ≡ Plain (instrs.Num (call_op op) number))

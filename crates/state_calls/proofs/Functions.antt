@@ -24,7 +24,7 @@ use Rattle.vm_states.specs.frame_moves.Shown.{Tables, IsNext, view_of}
 use Rattle.vm_states.specs.frame_moves.Outcomes.{world_of, outcome_of}
 use Rattle.vm_states.specs.vm_fetching.declared.operations.CallOp.{CallOp}
 use Rattle.vm_states.specs.vm_fetching.declared.instruction.Fetched.{Fetched}
-use Rattle.vm_states.specs.vm_fetching.declared.instruction.Instruction.TheVariants as fetched
+use Rattle.vm_states.specs.vm_fetching.Instructions as fetched
 use Rattle.vm_states.specs.vm_fetching.Operations.{call_op}
 use Rattle.frame_calls.specs.declared.binding.FunctionCode.{FunctionCode}
 use Rattle.frame_calls.specs.declared.calling.Invocation.{Invocation}
@@ -56,13 +56,13 @@ invokes_in p means shelf shelf_is op number heap s given call taken callee is =
     (with_tables p means shelf shelf_is (λ (t : Tables). Invokes t (Plain (instrs.Num (call_op op) number)) call.size heap s.calls given.args given.keys call.callee) taken.invokes)
 
 module _ (rows : places.Laws) (p : Program) (row : Row) (means : Means p) (shelf : Shelf) (shelf_is : p.shelf ≡ shelf) (op : CallOp) (number end : ℕ) (heap : Heap Value ℕ) (s new : Calls)
-    (state : IsState p heap.objects s) (r : IsReady p s row (record { instruction = fetched.Call op number; end = end })) (given : Given) (call : Invocation) (taken : IsTaken shelf op number heap s given call)
+    (state : IsState p heap.objects s) (r : IsReady p s row (record { instruction = fetched.call op number; end = end })) (given : Given) (call : Invocation) (taken : IsTaken shelf op number heap s given call)
     (f : Function) (is : call.callee ≡ callees.Runs f) where
   abbrev It : Item
   It = Plain (instrs.Num (call_op op) number)
 
   abbrev Read : Fetched
-  Read = record { instruction = fetched.Call op number; end = end }
+  Read = record { instruction = fetched.call op number; end = end }
 
   invokes : Invokes p.tables It call.size heap s.calls given.args given.keys (callees.Runs f)
   invokes = invokes_in p means shelf shelf_is op number heap s given call taken (callees.Runs f) is

@@ -24,7 +24,7 @@ use Rattle.vm_states.specs.Tops as tops
 use Rattle.vm_states.specs.vm_fetching.declared.operations.CallOp.{CallOp}
 use Rattle.vm_states.specs.vm_fetching.declared.operations.CallOp.TheVariants as call_ops
 use Rattle.vm_states.specs.vm_fetching.declared.instruction.Fetched.{Fetched}
-use Rattle.vm_states.specs.vm_fetching.declared.instruction.Instruction.TheVariants as fetched
+use Rattle.vm_states.specs.vm_fetching.Instructions as fetched
 use Rattle.vm_states.specs.vm_fetching.Operations.{call_op}
 use Rattle.frame_calls.specs.declared.calling.Invocation.{Invocation}
 use Rattle.frame_calls.specs.Invoking.{HasLooked, Invokes}
@@ -100,7 +100,7 @@ taken shelf op number heap s old given call e invokes callee operands few size t
 
 -- what calls find that run a program of a library within this room
 module _ (laws : Laws) (within : Within) (count : (t : Tables) (c : Call) → length (frame_of (view_of t) c).slots ≡ length c.slots) (room : ℕ) (shelf : Shelf) (heap : Heap Value ℕ) (s : Calls) (op : CallOp) (number end : ℕ)
-    (h : RunsWithin room shelf heap s (record { instruction = fetched.Call op number; end = end })) where
+    (h : RunsWithin room shelf heap s (record { instruction = fetched.call op number; end = end })) where
   abbrev It : Call
   It = h.runs.ready.first
 
@@ -113,7 +113,7 @@ module _ (laws : Laws) (within : Within) (count : (t : Tables) (c : Call) → le
   pub slots_fit : length (running_slots s.calls) ≤ room
   slots_fit =
       its_slots (λ st. length st ≤ room)
-      (slots_within within count room h.runs.program h.runs.means s h.runs.row (record { instruction = fetched.Call op number; end = end }) h.runs.state.running h.runs.ready h.roomy)
+      (slots_within within count room h.runs.program h.runs.means s h.runs.row (record { instruction = fetched.call op number; end = end }) h.runs.state.running h.runs.ready h.roomy)
 
   pub slots_are_known : All (IsKnownSlot (text_at shelf) (items_at shelf) heap.objects) (running_slots s.calls)
   slots_are_known =

@@ -3,7 +3,7 @@
 ghost use Rattle.std.specs.Prelude.{◌≡◌, ◌<◌, ◌^◌, OnErr};
 ghost use Rattle.vm_states.specs.bc_library.Constants.{items_at, text_at};
 ghost use Rattle.frame_calls.specs.prim_calls.declared.callees.Callee.TheVariants as callees;
-ghost use Rattle.vm_states.specs.vm_fetching.declared.instruction.Instruction.TheVariants as fetched;
+ghost use Rattle.vm_states.specs.vm_fetching.Instructions as fetched;
 ghost use Rattle.frame_calls.specs.Putting.{IsKnownStop};
 ghost use Rattle.state_calls.specs.Called.{ComesIn};
 ghost use Rattle.state_calls.specs.Runs.{RunsWithin, RunsAgain};
@@ -33,14 +33,14 @@ pub(crate) fn call_code(
     number: u32,
     end: u32,
 ) -> Result<(), Stop>
-    requires runs { RunsWithin bindings.old.room library.now arena.now frames.old (record { instruction = fetched.Call op number; end = end }) }
+    requires runs { RunsWithin bindings.old.room library.now arena.now frames.old (record { instruction = fetched.call op number; end = end }) }
     requires few { frames.old.slot_room < 2 ^ 32 }
     requires rows { rows.now ≡ library.now }
     requires taken { IsTaken library.now op number arena.now frames.old operands.now call }
     requires callee { call.callee ≡ callees.Runs function }
-    ensures comes { ComesIn library.now (record { instruction = fetched.Call op number; end = end })
+    ensures comes { ComesIn library.now (record { instruction = fetched.call op number; end = end })
         (callees.Runs function) operands.now arena.now arena.now frames.old frames.new result }
-    ensures again { RunsAgain library.now (record { instruction = fetched.Call op number; end = end }) arena.now arena.now frames.old frames.new }
+    ensures again { RunsAgain library.now (record { instruction = fetched.call op number; end = end }) arena.now arena.now frames.old frames.new }
     ensures stop { IsKnownStop (text_at library.now) (items_at library.now) arena.now.objects result }
     ensures stays { OnErr result (frames.new ≡ frames.old) }
     ensures keeps { Keeps frames.old frames.new }

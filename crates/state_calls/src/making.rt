@@ -1,7 +1,7 @@
 //! Functions that are made.
 
 ghost use Rattle.std.specs.Prelude.{◌≡◌, OnErr};
-ghost use Rattle.vm_states.specs.vm_fetching.declared.instruction.Instruction.TheVariants as fetched;
+ghost use Rattle.vm_states.specs.vm_fetching.Instructions as fetched;
 ghost use Rattle.vm_states.specs.vm_fetching.declared.operations.MakeOp.TheVariants as make_ops;
 ghost use Rattle.state_calls.specs.Names.{AreNames};
 ghost use Rattle.state_calls.specs.Runs.{RunsIn, ActsIn};
@@ -24,11 +24,11 @@ pub fn make_function(
     number: u32,
     end: u32,
 ) -> Result<(), Stop>
-    requires runs { RunsIn library.now arena.old frames.old (record { instruction = fetched.Make make_ops.MakeFunction number; end = end }) }
+    requires runs { RunsIn library.now arena.old frames.old (record { instruction = fetched.make make_ops.MakeFunction number; end = end }) }
     requires rows { rows.now ≡ library.now }
     requires names { AreNames library.now names.now }
     ensures acts { ActsIn library.now (record {
-      instruction = fetched.Make make_ops.MakeFunction number;
+      instruction = fetched.make make_ops.MakeFunction number;
       end = end;
     }) 0 arena.old arena.new frames.old frames.new result }
     ensures stays { OnErr result (frames.new ≡ frames.old) }
@@ -53,11 +53,11 @@ pub fn make_function_with(
     number: u32,
     end: u32,
 ) -> Result<(), Stop>
-    requires runs { RunsIn library.now arena.old frames.old (record { instruction = fetched.Make make_ops.MakeFunctionDefargs number; end = end }) }
+    requires runs { RunsIn library.now arena.old frames.old (record { instruction = fetched.make make_ops.MakeFunctionDefargs number; end = end }) }
     requires rows { rows.now ≡ library.now }
     requires names { AreNames library.now names.now }
     ensures acts { ActsIn library.now (record {
-      instruction = fetched.Make make_ops.MakeFunctionDefargs number;
+      instruction = fetched.make make_ops.MakeFunctionDefargs number;
       end = end;
     }) 0 arena.old arena.new frames.old frames.new result }
     ensures stays { OnErr result (frames.new ≡ frames.old) }

@@ -6,7 +6,7 @@ ghost use Rattle.frame_calls.specs.arena_objects.Keys.{AllTold};
 ghost use Rattle.vm_states.specs.bc_library.Constants.{items_at, text_at};
 ghost use Rattle.frame_calls.specs.prim_calls.Callees.{IsKnownCallee};
 ghost use Rattle.vm_states.specs.vm_frames.Calls.{OfRunning};
-ghost use Rattle.vm_states.specs.vm_fetching.declared.instruction.Instruction.TheVariants as fetched;
+ghost use Rattle.vm_states.specs.vm_fetching.Instructions as fetched;
 ghost use Rattle.frame_calls.specs.Known.{AreKnown};
 ghost use Rattle.vm_states.specs.Means.{Program, Means};
 ghost use Rattle.state_calls.specs.Called.{visits};
@@ -31,7 +31,7 @@ pub fn take_call(
     number: u32,
     end: u32,
 ) -> Invocation
-    requires runs { RunsWithin operands.old.room library.now arena.now frames.now (record { instruction = fetched.Call op number; end = end }) }
+    requires runs { RunsWithin operands.old.room library.now arena.now frames.now (record { instruction = fetched.call op number; end = end }) }
     requires methods { OfRunning (λ c. HasMethods c.slots) frames.now.calls }
     ensures taken { IsTaken library.now op number arena.now frames.now operands.new result }
     ensures room { operands.new.room ≡ operands.old.room }

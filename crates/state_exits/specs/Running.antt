@@ -23,7 +23,7 @@ use Rattle.vm_states.specs.frame_exits.Ends.{with_modules, state_of}
 use Rattle.vm_states.specs.frame_exits.Known.{IsKnownAfter}
 use Rattle.vm_states.specs.vm_fetching.declared.operations.LeaveOp.{LeaveOp}
 use Rattle.vm_states.specs.vm_fetching.declared.instruction.Fetched.{Fetched}
-use Rattle.vm_states.specs.vm_fetching.declared.instruction.Instruction.TheVariants as fetched
+use Rattle.vm_states.specs.vm_fetching.Instructions as fetched
 use Rattle.vm_states.specs.vm_fetching.Fetches.{IsVerifiedRow}
 use Rattle.vm_states.specs.Means.{Program, Means}
 use Rattle.vm_states.specs.Ready.{IsReady}
@@ -33,11 +33,11 @@ use Rattle.state_exits.specs.Modules.{AreNames, AreRegistered}
 
 -- a return or a raise as it is fetched
 abbrev pub fetched_leave : LeaveOp → (end : ℕ) → Fetched
-fetched_leave op end = record { instruction = fetched.Leave op; end = end }
+fetched_leave op end = record { instruction = fetched.leave op; end = end }
 
 -- the end of a finally as it is fetched
 abbrev pub fetched_finish : (end : ℕ) → Fetched
-fetched_finish end = record { instruction = fetched.Finish; end = end }
+fetched_finish end = record { instruction = fetched.finish; end = end }
 
 -- the place of the instruction at the offset of the row, by numbers of texts
 abbrev pub place_at : Row → (offset : ℕ) → Place

@@ -13,5 +13,6 @@ pub use law::registered_law;
 pub use raising::{raise_again_on, raise_on, stop_on};
 pub use returning::return_on;
 pub use vm_states::{
-    CallOp, End, Fetched, Instruction, LeaveOp, ModuleName, NameOp, NumberOp, PlainOp, Row, Rows,
+    CallOp, End, Fetched, Instruction, LeaveOp, MakeOp, ModuleName, NameOp, NumberOp, PlainOp, Row,
+    Rows, Step,
 };

@@ -5,7 +5,7 @@ ghost use Rattle.mpy_io.specs.Count.{Counts};
 ghost use Rattle.port_set.specs.Counts.{CountsKeep};
 ghost use Rattle.state_values.specs.bc_library.Constants.{items_at, text_at};
 ghost use Rattle.state_values.specs.vm_frames.Calls.{OfRunning};
-ghost use Rattle.state_calls.specs.vm_fetching.declared.instruction.Instruction.TheVariants as fetched_as;
+ghost use Rattle.state_calls.specs.vm_fetching.Instructions as fetched_as;
 ghost use Rattle.state_values.specs.vm_states.Means.{Program};
 ghost use Rattle.state_calls.specs.Runs.{IsFetchedAt};
 ghost use Rattle.state_calls.specs.Taken.{IsTaken};
@@ -43,17 +43,17 @@ pub fn call<S: Sink, P: Port>(
     call: Invocation,
 ) -> Result<Option<End>, Failed>
     requires runs { RunsWith (text_at library.now) (items_at library.now) names.now library.now arena.old modules.old frames.old row.now (record {
-      instruction = fetched_as.Call op number;
+      instruction = fetched_as.call op number;
       end = end;
     }) }
-    requires read { OfRunning (IsFetchedAt library.now (record { instruction = fetched_as.Call op number; end = end })) frames.old.calls }
+    requires read { OfRunning (IsFetchedAt library.now (record { instruction = fetched_as.call op number; end = end })) frames.old.calls }
     requires few { frames.old.slot_room < 2 ^ 32 }
     requires roomy { frames.old.slot_room ≤ bindings.old.room }
     requires rows { rows.now ≡ library.now }
     requires taken { IsTaken library.now op number arena.old frames.old operands.now call }
     ensures comes { (p : Program) → p.shelf ≡ library.now
         → CallsOnBehind S.told S.count p (text_at library.now) (items_at library.now) names.now row.now (record {
-          instruction = fetched_as.Call op number;
+          instruction = fetched_as.call op number;
           end = end;
         }) call.callee operands.now (record {
           heap = arena.old;
@@ -66,7 +66,7 @@ pub fn call<S: Sink, P: Port>(
         }) modules.old modules.new frames.old frames.new result }
     ensures went { (p : Program) → p.shelf ≡ library.now
         → WentBehind p (text_at library.now) (items_at library.now) names.now row.now (record {
-          instruction = fetched_as.Call op number;
+          instruction = fetched_as.call op number;
           end = end;
         }) call.size arena.old arena.new modules.old modules.new frames.old frames.new (end_in result) }
     ensures counts { Counts (S.count out.old) (S.count out.new) (is_err result) }

@@ -19,7 +19,7 @@ use Rattle.vm_states.specs.OnTop as machine
 use Rattle.vm_states.specs.Tops as tops
 use Rattle.vm_states.specs.vm_fetching.declared.operations.NumberOp.{NumberOp}
 use Rattle.vm_states.specs.vm_fetching.declared.operations.NumberOp.TheVariants as number_ops
-use Rattle.vm_states.specs.vm_fetching.declared.instruction.Instruction.TheVariants as fetched
+use Rattle.vm_states.specs.vm_fetching.Instructions as fetched
 use Rattle.vm_states.specs.vm_fetching.Operations.{number_op}
 use Rattle.vm_states.specs.vm_fetching.Shows.{NumberIsWithin}
 use Rattle.vm_states.specs.Means.{Program}
@@ -54,10 +54,10 @@ pub local_there : (locals n : ℕ) (op : NumberOp) → StoresLocal op → Number
 local_there locals n op h = either (λ o. NumberIsWithin locals o n → n < locals) (λ f. f) (λ f. f) op h
 
 pub value_there : ((view : View) (starts : List ℕ) (st : List Slot) → machine.OneValue (slots_of view starts st) → tops.OneValue st)
-    → (p : Program) (s : Calls) (row : Row) (op : NumberOp) (n end : ℕ) (r : IsReady p s row (record { instruction = fetched.Number op n; end = end })) → StoresLocal op
+    → (p : Program) (s : Calls) (row : Row) (op : NumberOp) (n end : ℕ) (r : IsReady p s row (record { instruction = fetched.number op n; end = end })) → StoresLocal op
     → (v : Value) × IsTop (slots.Value v) s.calls
 value_there one p s row op n end r h =
     let view : View = view_of p.tables in
     let found = finds_value (p.plans (p.tables.module_name r.first.module_number) r.first.code) p.library r.code (frame_of view r.first) op n h r.finds in
     let top = one view (starts_of view r.first) r.first.slots found in
-    (top.top, of_first (λ c. slice_get c.slots 0 ≡ Some (slots.Value top.top)) p s row (record { instruction = fetched.Number op n; end = end }) r (ap (λ (z : List Slot). slice_get z 0) top.are))
+    (top.top, of_first (λ c. slice_get c.slots 0 ≡ Some (slots.Value top.top)) p s row (record { instruction = fetched.number op n; end = end }) r (ap (λ (z : List Slot). slice_get z 0) top.are))

@@ -24,7 +24,7 @@ use Rattle.vm_states.specs.vm_fetching.Operations.{jump_op}
 use Rattle.vm_states.specs.vm_fetching.declared.operations.JumpOp.{JumpOp}
 use Rattle.vm_states.specs.vm_fetching.declared.operations.JumpOp.TheVariants as jump_ops
 use Rattle.vm_states.specs.vm_fetching.declared.instruction.Fetched.{Fetched}
-use Rattle.vm_states.specs.vm_fetching.declared.instruction.Instruction.TheVariants as fetched
+use Rattle.vm_states.specs.vm_fetching.Instructions as fetched
 use Rattle.state_values.specs.Onward.{StartsBehind, DoesBehind, Onward}
 use Rattle.state_values.specs.Tests.{IsTest, tested}
 use Rattle.state_values.proofs.Doing.{of_program, layout_of, at_first}
@@ -47,7 +47,7 @@ finds_value plan library code frame op position t =
     any_test (λ o. FindsJump plan library code frame (jump_op o) position → machine.OneValue frame.slots) (λ f. f) (λ f. f) (λ f. f) (λ f. f) op t
 
 abbrev pub test_at : JumpOp → (target end : ℕ) → Fetched
-test_at op target end = record { instruction = fetched.Jump op target; end = end }
+test_at op target end = record { instruction = fetched.jump op target; end = end }
 
 pub starts_end : (op : JumpOp) (target end : ℕ) → IsTest op → StartsBehind (test_at op target end) end
 starts_end op target end t = any_test (λ o. StartsBehind (test_at o target end) end) (λ p s row r. r.begins tt) (λ p s row r. r.begins tt) (λ p s row r. r.begins tt) (λ p s row r. r.begins tt) op t

@@ -12,7 +12,7 @@ use Rattle.vm_states.specs.frame_moves.Stacks.{doubled, doubled_two, turned_two,
 use Rattle.vm_states.specs.vm_fetching.declared.operations.PlainOp.{PlainOp}
 use Rattle.vm_states.specs.vm_fetching.declared.operations.PlainOp.TheVariants as plain_ops
 use Rattle.vm_states.specs.vm_fetching.declared.instruction.Fetched.{Fetched}
-use Rattle.vm_states.specs.vm_fetching.declared.instruction.Instruction.TheVariants as fetched
+use Rattle.vm_states.specs.vm_fetching.Instructions as fetched
 use Rattle.vm_states.specs.Means.{Program, Means}
 use Rattle.vm_states.specs.Ready.{IsReady}
 use Rattle.vm_states.specs.Running.{IsRunning}
@@ -51,7 +51,7 @@ moved_slots plain_ops.StoreMap st = st
 
 -- the operation as it is fetched
 abbrev pub fetched_plain : PlainOp → (end : ℕ) → Fetched
-fetched_plain op end = record { instruction = fetched.Plain op; end = end }
+fetched_plain op end = record { instruction = fetched.plain op; end = end }
 
 -- the calls run a program, and this was fetched for the first of them
 pub record Runs (s : Calls) (fetched : Fetched) : Type 0 where

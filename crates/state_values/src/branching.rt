@@ -7,7 +7,7 @@ ghost use Rattle.vm_states.specs.prim_names.prim_faults.Sights.{under};
 ghost use Rattle.vm_states.specs.vm_frames.Calls.{OfRunning, on_running};
 ghost use Rattle.vm_states.specs.frame_moves.Shown.{Tables, Steps, IsNext, IsAt, Tests};
 ghost use Rattle.vm_states.specs.vm_fetching.Operations.{jump_op};
-ghost use Rattle.vm_states.specs.vm_fetching.declared.instruction.Instruction.TheVariants as fetched;
+ghost use Rattle.vm_states.specs.vm_fetching.Instructions as fetched;
 ghost use Rattle.vm_states.specs.Acting.{RunsOver};
 ghost use Rattle.state_values.specs.Keeping.{ActsKeeping};
 ghost use Rattle.state_values.specs.Tests.{IsTest, tested};
@@ -51,9 +51,9 @@ pub(crate) fn test_jump<C: Constants>(
     end: u32,
 ) -> Result<(), Stop>
     requires test { IsTest op }
-    requires runs { under C.Constants consts.now RunsOver arena.now frames.old (record { instruction = fetched.Jump op target; end = end }) }
+    requires runs { under C.Constants consts.now RunsOver arena.now frames.old (record { instruction = fetched.jump op target; end = end }) }
     ensures acts { under C.Constants consts.now ActsKeeping
-        (record { instruction = fetched.Jump op target; end = end }) 0 arena.now arena.now frames.old frames.new result }
+        (record { instruction = fetched.jump op target; end = end }) 0 arena.now arena.now frames.old frames.new result }
 {
     acting_law();
     tops_law();

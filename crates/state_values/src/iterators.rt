@@ -1,6 +1,6 @@
 //! Operations on iterators, as they were fetched for calls of a program.
 
-ghost use Rattle.vm_states.specs.vm_fetching.declared.instruction.Instruction.TheVariants as fetched;
+ghost use Rattle.vm_states.specs.vm_fetching.Instructions as fetched;
 ghost use Rattle.vm_states.specs.prim_names.prim_faults.Sights.{under};
 ghost use Rattle.vm_states.specs.vm_fetching.declared.operations.JumpOp.TheVariants as jump_ops;
 ghost use Rattle.vm_states.specs.vm_fetching.declared.operations.PlainOp.TheVariants as plain_ops;
@@ -37,9 +37,9 @@ pub(crate) fn for_iter<C: Constants>(
     target: u32,
     end: u32,
 ) -> Result<(), Stop>
-    requires runs { under C.Constants consts.now RunsOver arena.old frames.old (record { instruction = fetched.Jump jump_ops.ForIter target; end = end }) }
+    requires runs { under C.Constants consts.now RunsOver arena.old frames.old (record { instruction = fetched.jump jump_ops.ForIter target; end = end }) }
     ensures acts { under C.Constants consts.now ActsKeeping (record {
-      instruction = fetched.Jump jump_ops.ForIter target;
+      instruction = fetched.jump jump_ops.ForIter target;
       end = end;
     }) 0 arena.old arena.new frames.old frames.new result }
 {

@@ -32,6 +32,6 @@ pub use operators::{binary_op, unary_op, visits_binary_op};
 pub use slot_moves::move_slots;
 pub use storing::store_local;
 pub use vm_states::{
-    CallOp, End, Fetched, Instruction, JumpOp, LeaveOp, MakeOp, ModuleName, NameOp, NumberOp,
-    PlainOp, Row, Rows, assigned, fetch, tops_law,
+    Action, CallOp, End, Fetched, Instruction, JumpOp, LeaveOp, MakeOp, ModuleName, NameOp,
+    NumberOp, PlainOp, Row, Rows, Step, assigned, fetch, tops_law,
 };

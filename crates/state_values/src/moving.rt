@@ -1,6 +1,6 @@
 //! Instructions that move frames alone, over an arena that stays.
 
-ghost use Rattle.vm_states.specs.vm_fetching.declared.instruction.Instruction.TheVariants as fetched;
+ghost use Rattle.vm_states.specs.vm_fetching.Instructions as fetched;
 ghost use Rattle.vm_states.specs.prim_names.prim_faults.Sights.{under};
 ghost use Rattle.vm_states.specs.vm_fetching.declared.operations.JumpOp.TheVariants as jump_ops;
 ghost use Rattle.vm_states.specs.vm_fetching.declared.operations.NameOp.TheVariants as name_ops;
@@ -44,9 +44,9 @@ pub fn store_fast<C: Constants>(
     n: u32,
     end: u32,
 ) -> Result<(), Stop>
-    requires runs { under C.Constants _consts.now RunsOver _arena.now frames.old (record { instruction = fetched.Number number_ops.StoreFast n; end = end }) }
+    requires runs { under C.Constants _consts.now RunsOver _arena.now frames.old (record { instruction = fetched.number number_ops.StoreFast n; end = end }) }
     ensures acts { under C.Constants _consts.now ActsKeeping (record {
-      instruction = fetched.Number number_ops.StoreFast n;
+      instruction = fetched.number number_ops.StoreFast n;
       end = end;
     }) 0 _arena.now _arena.now frames.old frames.new result }
 {
@@ -64,9 +64,9 @@ pub fn store_fast_n<C: Constants>(
     n: u32,
     end: u32,
 ) -> Result<(), Stop>
-    requires runs { under C.Constants _consts.now RunsOver _arena.now frames.old (record { instruction = fetched.Number number_ops.StoreFastN n; end = end }) }
+    requires runs { under C.Constants _consts.now RunsOver _arena.now frames.old (record { instruction = fetched.number number_ops.StoreFastN n; end = end }) }
     ensures acts { under C.Constants _consts.now ActsKeeping (record {
-      instruction = fetched.Number number_ops.StoreFastN n;
+      instruction = fetched.number number_ops.StoreFastN n;
       end = end;
     }) 0 _arena.now _arena.now frames.old frames.new result }
 {
@@ -84,9 +84,9 @@ pub fn load_int<C: Constants>(
     n: i32,
     end: u32,
 ) -> Result<(), Stop>
-    requires runs { under C.Constants _consts.now RunsOver _arena.now frames.old (record { instruction = fetched.Int n; end = end }) }
+    requires runs { under C.Constants _consts.now RunsOver _arena.now frames.old (record { instruction = fetched.int n; end = end }) }
     ensures acts { under C.Constants _consts.now ActsKeeping
-        (record { instruction = fetched.Int n; end = end }) 0 _arena.now _arena.now frames.old frames.new result }
+        (record { instruction = fetched.int n; end = end }) 0 _arena.now _arena.now frames.old frames.new result }
 {
     acting_law();
     load_small(frames, n, end);
@@ -102,11 +102,11 @@ pub fn load_text<C: Constants>(
     end: u32,
 ) -> Result<(), Stop>
     requires runs { under C.Constants _consts.now RunsOver _arena.now frames.old (record {
-      instruction = fetched.Name name_ops.LoadConstString text;
+      instruction = fetched.name name_ops.LoadConstString text;
       end = end;
     }) }
     ensures acts { under C.Constants _consts.now ActsKeeping (record {
-      instruction = fetched.Name name_ops.LoadConstString text;
+      instruction = fetched.name name_ops.LoadConstString text;
       end = end;
     }) 0 _arena.now _arena.now frames.old frames.new result }
 {
@@ -123,9 +123,9 @@ pub fn load_object<C: Constants>(
     v: Value,
     end: u32,
 ) -> Result<(), Stop>
-    requires runs { under C.Constants _consts.now RunsOver _arena.now frames.old (record { instruction = fetched.Object v; end = end }) }
+    requires runs { under C.Constants _consts.now RunsOver _arena.now frames.old (record { instruction = fetched.object v; end = end }) }
     ensures acts { under C.Constants _consts.now ActsKeeping
-        (record { instruction = fetched.Object v; end = end }) 0 _arena.now _arena.now frames.old frames.new result }
+        (record { instruction = fetched.object v; end = end }) 0 _arena.now _arena.now frames.old frames.new result }
 {
     acting_law();
     load_constant(frames, v, end);
@@ -140,9 +140,9 @@ pub fn jump<C: Constants>(
     target: u32,
     end: u32,
 ) -> Result<(), Stop>
-    requires runs { under C.Constants _consts.now RunsOver _arena.now frames.old (record { instruction = fetched.Jump jump_ops.Jump target; end = end }) }
+    requires runs { under C.Constants _consts.now RunsOver _arena.now frames.old (record { instruction = fetched.jump jump_ops.Jump target; end = end }) }
     ensures acts { under C.Constants _consts.now ActsKeeping (record {
-      instruction = fetched.Jump jump_ops.Jump target;
+      instruction = fetched.jump jump_ops.Jump target;
       end = end;
     }) 0 _arena.now _arena.now frames.old frames.new result }
 {
@@ -160,11 +160,11 @@ pub(crate) fn setup_except<C: Constants>(
     end: u32,
 ) -> Result<(), Stop>
     requires runs { under C.Constants _consts.now RunsOver _arena.now frames.old (record {
-      instruction = fetched.Jump jump_ops.SetupExcept handler;
+      instruction = fetched.jump jump_ops.SetupExcept handler;
       end = end;
     }) }
     ensures acts { under C.Constants _consts.now ActsKeeping (record {
-      instruction = fetched.Jump jump_ops.SetupExcept handler;
+      instruction = fetched.jump jump_ops.SetupExcept handler;
       end = end;
     }) 0 _arena.now _arena.now frames.old frames.new result }
 {
@@ -182,11 +182,11 @@ pub(crate) fn setup_finally<C: Constants>(
     end: u32,
 ) -> Result<(), Stop>
     requires runs { under C.Constants _consts.now RunsOver _arena.now frames.old (record {
-      instruction = fetched.Jump jump_ops.SetupFinally handler;
+      instruction = fetched.jump jump_ops.SetupFinally handler;
       end = end;
     }) }
     ensures acts { under C.Constants _consts.now ActsKeeping (record {
-      instruction = fetched.Jump jump_ops.SetupFinally handler;
+      instruction = fetched.jump jump_ops.SetupFinally handler;
       end = end;
     }) 0 _arena.now _arena.now frames.old frames.new result }
 {
@@ -204,11 +204,11 @@ pub(crate) fn pop_except_jump<C: Constants>(
     end: u32,
 ) -> Result<(), Stop>
     requires runs { under C.Constants _consts.now RunsOver _arena.now frames.old (record {
-      instruction = fetched.Jump jump_ops.PopExceptJump target;
+      instruction = fetched.jump jump_ops.PopExceptJump target;
       end = end;
     }) }
     ensures acts { under C.Constants _consts.now ActsKeeping (record {
-      instruction = fetched.Jump jump_ops.PopExceptJump target;
+      instruction = fetched.jump jump_ops.PopExceptJump target;
       end = end;
     }) 0 _arena.now _arena.now frames.old frames.new result }
 {
@@ -226,9 +226,9 @@ pub fn unwind_jump<C: Constants>(
     byte: u8,
     end: u32,
 ) -> Result<(), Stop>
-    requires runs { under C.Constants _consts.now RunsOver _arena.now frames.old (record { instruction = fetched.Unwind target byte; end = end }) }
+    requires runs { under C.Constants _consts.now RunsOver _arena.now frames.old (record { instruction = fetched.unwind target byte; end = end }) }
     ensures acts { under C.Constants _consts.now ActsKeeping (record {
-      instruction = fetched.Unwind target byte;
+      instruction = fetched.unwind target byte;
       end = end;
     }) 0 _arena.now _arena.now frames.old frames.new result }
 {

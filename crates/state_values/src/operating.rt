@@ -2,7 +2,7 @@
 
 ghost use Rattle.std.specs.Prelude.{◌≤◌, length};
 ghost use Rattle.vm_states.specs.prim_names.prim_faults.Sights.{under};
-ghost use Rattle.vm_states.specs.vm_fetching.declared.instruction.Instruction.TheVariants as fetched;
+ghost use Rattle.vm_states.specs.vm_fetching.Instructions as fetched;
 ghost use Rattle.state_values.specs.Moving.{fetched_plain};
 ghost use Rattle.vm_states.specs.Acting.{RunsOver};
 ghost use Rattle.state_values.specs.Keeping.{ActsKeeping};
@@ -64,9 +64,9 @@ pub fn number_on<C: Constants>(
     end: u32,
 ) -> Result<(), Stop>
     requires places { frames.old.slot_room ≤ length items.old }
-    requires runs { under C.Constants consts.now RunsOver arena.old frames.old (record { instruction = fetched.Number op n; end = end }) }
+    requires runs { under C.Constants consts.now RunsOver arena.old frames.old (record { instruction = fetched.number op n; end = end }) }
     ensures acts { under C.Constants consts.now ActsKeeping
-        (record { instruction = fetched.Number op n; end = end }) 0 arena.old arena.new frames.old frames.new result }
+        (record { instruction = fetched.number op n; end = end }) 0 arena.old arena.new frames.old frames.new result }
 {
     tops_law();
     match op {
@@ -96,9 +96,9 @@ pub fn name_on<C: Constants>(
     end: u32,
 ) -> Result<(), Stop>
     requires operation { IsNameOperation op }
-    requires runs { under C.Constants consts.now RunsOver arena.old frames.old (record { instruction = fetched.Name op name; end = end }) }
+    requires runs { under C.Constants consts.now RunsOver arena.old frames.old (record { instruction = fetched.name op name; end = end }) }
     ensures acts { under C.Constants consts.now ActsKeeping
-        (record { instruction = fetched.Name op name; end = end }) 0 arena.old arena.new frames.old frames.new result }
+        (record { instruction = fetched.name op name; end = end }) 0 arena.old arena.new frames.old frames.new result }
 {
     match op {
         NameOp::LoadConstString => load_text(frames, arena, consts, name, end),
@@ -123,9 +123,9 @@ pub fn attribute_on<C: Constants>(
     end: u32,
 ) -> Result<(), Stop>
     requires operation { IsAttributeOperation op }
-    requires runs { under C.Constants consts.now RunsOver arena.old frames.old (record { instruction = fetched.Name op name; end = end }) }
+    requires runs { under C.Constants consts.now RunsOver arena.old frames.old (record { instruction = fetched.name op name; end = end }) }
     ensures acts { under C.Constants consts.now ActsKeeping
-        (record { instruction = fetched.Name op name; end = end }) 0 arena.old arena.new frames.old frames.new result }
+        (record { instruction = fetched.name op name; end = end }) 0 arena.old arena.new frames.old frames.new result }
 {
     match op {
         NameOp::LoadAttr => load_attr(frames, arena, consts, name, end),
@@ -151,9 +151,9 @@ pub fn jump_to<C: Constants>(
     target: u32,
     end: u32,
 ) -> Result<(), Stop>
-    requires runs { under C.Constants consts.now RunsOver arena.old frames.old (record { instruction = fetched.Jump op target; end = end }) }
+    requires runs { under C.Constants consts.now RunsOver arena.old frames.old (record { instruction = fetched.jump op target; end = end }) }
     ensures acts { under C.Constants consts.now ActsKeeping
-        (record { instruction = fetched.Jump op target; end = end }) 0 arena.old arena.new frames.old frames.new result }
+        (record { instruction = fetched.jump op target; end = end }) 0 arena.old arena.new frames.old frames.new result }
 {
     match op {
         JumpOp::Jump => jump(frames, arena, consts, target, end),

@@ -2,7 +2,7 @@
 
 ghost use Rattle.std.specs.Prelude.{◌≡◌, Ok, true, false};
 ghost use Rattle.state_values.specs.prim_assignments.prim_faults.Sights.{under};
-ghost use Rattle.state_values.specs.vm_fetching.declared.instruction.Instruction.TheVariants as fetched;
+ghost use Rattle.state_values.specs.vm_fetching.Instructions as fetched;
 ghost use Rattle.state_values.specs.Moving.{fetched_plain};
 ghost use Rattle.state_values.specs.vm_states.Acting.{RunsOver};
 ghost use Rattle.state_values.specs.Keeping.{ActsKeeping};
@@ -15,7 +15,9 @@ use crate::locals::local_at_once;
 use crate::names::name_at_once;
 use crate::operators::binary_at_once;
 use arena_heap::{Arena, Constants};
-use state_values::{Fetched, Instruction, PlainOp, load_int, load_object, move_on, unary_op};
+use state_values::{
+    Action, Fetched, Instruction, PlainOp, Step, load_int, load_object, move_on, unary_op,
+};
 use vm_frames::Frames;
 
 /// An operation without an operand: those that move slots alone are carried out.
@@ -45,6 +47,33 @@ fn plain_at_once<C: Constants>(
     }
 }
 
+/// An instruction that stays in the running call: it is carried out if it comes to no stop and changes no object.
+#[inline(always)]
+fn step_at_once<C: Constants>(
+    frames: &mut Frames,
+    arena: &Arena,
+    consts: &C,
+    step: Step,
+    end: u32,
+) -> Option<u64>
+    requires runs { under C.Constants consts.now RunsOver arena.now frames.old (record { instruction = fetched.stays step; end = end }) }
+    ensures acts { under C.Constants consts.now ActsAtOnce (record { instruction = fetched.stays step; end = end }) arena.now frames.old frames.new result }
+{
+    match step {
+        Step::Plain(op) => plain_at_once(frames, arena, consts, op, end),
+        Step::Number(op, n) => local_at_once(frames, arena, consts, op, n, end),
+        Step::Int(n) => done(load_int(frames, arena, consts, n, end)),
+        Step::Unary(number) => done(unary_op(frames, arena, consts, number, end)),
+        Step::Name(op, text) => name_at_once(frames, arena, consts, op, text, end),
+        Step::Object(v) => done(load_object(frames, arena, consts, v, end)),
+        Step::Jump(op, target) => jump_at_once(frames, arena, consts, op, target, end),
+        Step::Unwind {
+            target: _target,
+            byte: _byte,
+        } => None,
+    }
+}
+
 /// Carries out what was fetched for the running call, if it changes that call alone and comes to no stop: constants, locals,
 /// names that are looked up, moves of slots, items of lists, jumps, iterators over lists and ranges, operators over one value, and over
 /// two small integers. It answers the visits
@@ -61,42 +90,9 @@ pub fn act_at_once<C: Constants>(
 {
     let end = fetched.end;
     match fetched.instruction {
-        Instruction::Plain(op) => plain_at_once(frames, arena, consts, op, end),
-        Instruction::Number(op, n) => local_at_once(frames, arena, consts, op, n, end),
-        Instruction::Int(n) => done(load_int(frames, arena, consts, n, end)),
-        Instruction::Unary(number) => done(unary_op(frames, arena, consts, number, end)),
+        Instruction::Acts(Action::Stays(step)) => step_at_once(frames, arena, consts, step, end),
         Instruction::Binary(number) => binary_at_once(frames, arena, consts, number, end),
-        Instruction::Name(op, text) => name_at_once(frames, arena, consts, op, text, end),
-        Instruction::Object(v) => done(load_object(frames, arena, consts, v, end)),
-        Instruction::Jump(op, target) => jump_at_once(frames, arena, consts, op, target, end),
-        Instruction::Unwind {
-            target: _target,
-            byte: _byte,
-        } => None,
-        Instruction::Leave(_op) => None,
-        Instruction::Finish => None,
-        Instruction::Make(_op, _number) => None,
-        Instruction::Import(_name) => None,
-        Instruction::Call(_op, _number) => None,
-    }
-}
-
-/// An operation without an operand: one that sets an item is carried out.
-#[inline(always)]
-fn store_plain<C: Constants>(
-    frames: &mut Frames,
-    arena: &mut Arena,
-    consts: &C,
-    op: PlainOp,
-    end: u32,
-) -> bool
-    requires runs { under C.Constants consts.now RunsOver arena.old frames.old (fetched_plain op end) }
-    ensures done { result ≡ true → under C.Constants consts.now ActsKeeping (fetched_plain op end) 0 arena.old arena.new frames.old frames.new (Ok tt) }
-    ensures left { result ≡ false → (frames.new ≡ frames.old) × (arena.new ≡ arena.old) }
-{
-    match op {
-        PlainOp::StoreSubscr => store_item(frames, arena, consts, end),
-        _ => false,
+        _ => None,
     }
 }
 
@@ -114,7 +110,9 @@ pub fn store_at_once<C: Constants>(
     ensures left { result ≡ false → (frames.new ≡ frames.old) × (arena.new ≡ arena.old) }
 {
     match fetched.instruction {
-        Instruction::Plain(op) => store_plain(frames, arena, consts, op, fetched.end),
+        Instruction::Acts(Action::Stays(Step::Plain(PlainOp::StoreSubscr))) => {
+            store_item(frames, arena, consts, fetched.end)
+        }
         _ => false,
     }
 }

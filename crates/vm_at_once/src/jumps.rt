@@ -1,7 +1,7 @@
 //! Jumps that change the running call alone, carried out at once.
 
 ghost use Rattle.state_values.specs.prim_assignments.prim_faults.Sights.{under};
-ghost use Rattle.state_values.specs.vm_fetching.declared.instruction.Instruction.TheVariants as fetched;
+ghost use Rattle.state_values.specs.vm_fetching.Instructions as fetched;
 ghost use Rattle.state_values.specs.vm_states.Acting.{RunsOver};
 ghost use Rattle.state_values.specs.Tests.{IsTest};
 ghost use Rattle.vm_at_once.specs.AtOnce.{ActsAtOnce};
@@ -23,8 +23,8 @@ fn test_at_once<C: Constants>(
     end: u32,
 ) -> Option<u64>
     requires test { IsTest op }
-    requires runs { under C.Constants _consts.now RunsOver _arena.now frames.old (record { instruction = fetched.Jump op target; end = end }) }
-    ensures { under C.Constants _consts.now ActsAtOnce (record { instruction = fetched.Jump op target; end = end }) _arena.now frames.old frames.new result }
+    requires runs { under C.Constants _consts.now RunsOver _arena.now frames.old (record { instruction = fetched.jump op target; end = end }) }
+    ensures { under C.Constants _consts.now ActsAtOnce (record { instruction = fetched.jump op target; end = end }) _arena.now frames.old frames.new result }
 {
     acting_law();
     tops_law();
@@ -50,8 +50,8 @@ pub(crate) fn jump_at_once<C: Constants>(
     target: u32,
     end: u32,
 ) -> Option<u64>
-    requires runs { under C.Constants consts.now RunsOver arena.now frames.old (record { instruction = fetched.Jump op target; end = end }) }
-    ensures { under C.Constants consts.now ActsAtOnce (record { instruction = fetched.Jump op target; end = end }) arena.now frames.old frames.new result }
+    requires runs { under C.Constants consts.now RunsOver arena.now frames.old (record { instruction = fetched.jump op target; end = end }) }
+    ensures { under C.Constants consts.now ActsAtOnce (record { instruction = fetched.jump op target; end = end }) arena.now frames.old frames.new result }
 {
     match op {
         JumpOp::Jump => done(jump(frames, arena, consts, target, end)),

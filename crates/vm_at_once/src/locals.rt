@@ -6,7 +6,7 @@ ghost use Rattle.state_values.specs.bc_progress.bc_ops.declared.instr.Instr.TheV
 ghost use Rattle.state_values.specs.bc_progress.bc_machine.Library.{Plain};
 ghost use Rattle.state_values.specs.prim_assignments.prim_faults.Sights.{under, TellsAll};
 ghost use Rattle.state_values.specs.vm_frames.Calls.{OfRunning};
-ghost use Rattle.state_values.specs.vm_fetching.declared.instruction.Instruction.TheVariants as fetched;
+ghost use Rattle.state_values.specs.vm_fetching.Instructions as fetched;
 ghost use Rattle.state_values.specs.vm_fetching.declared.operations.NumberOp.TheVariants as number_ops;
 ghost use Rattle.state_values.specs.frame_values.Effects.{Steps, Leaves};
 ghost use Rattle.state_values.specs.frame_values.Slots.{Puts, HasLocal, with_value};
@@ -55,9 +55,9 @@ fn load_short<C: Constants>(
     n: u32,
     end: u32,
 ) -> Option<u64>
-    requires runs { under C.Constants consts.now RunsOver arena.now frames.old (record { instruction = fetched.Number number_ops.LoadFast n; end = end }) }
+    requires runs { under C.Constants consts.now RunsOver arena.now frames.old (record { instruction = fetched.number number_ops.LoadFast n; end = end }) }
     ensures { under C.Constants consts.now ActsAtOnce (record {
-      instruction = fetched.Number number_ops.LoadFast n;
+      instruction = fetched.number number_ops.LoadFast n;
       end = end;
     }) arena.now frames.old frames.new result }
 {
@@ -74,9 +74,9 @@ fn load_long<C: Constants>(
     n: u32,
     end: u32,
 ) -> Option<u64>
-    requires runs { under C.Constants consts.now RunsOver arena.now frames.old (record { instruction = fetched.Number number_ops.LoadFastN n; end = end }) }
+    requires runs { under C.Constants consts.now RunsOver arena.now frames.old (record { instruction = fetched.number number_ops.LoadFastN n; end = end }) }
     ensures { under C.Constants consts.now ActsAtOnce (record {
-      instruction = fetched.Number number_ops.LoadFastN n;
+      instruction = fetched.number number_ops.LoadFastN n;
       end = end;
     }) arena.now frames.old frames.new result }
 {
@@ -94,8 +94,8 @@ pub(crate) fn local_at_once<C: Constants>(
     n: u32,
     end: u32,
 ) -> Option<u64>
-    requires runs { under C.Constants consts.now RunsOver arena.now frames.old (record { instruction = fetched.Number op n; end = end }) }
-    ensures { under C.Constants consts.now ActsAtOnce (record { instruction = fetched.Number op n; end = end }) arena.now frames.old frames.new result }
+    requires runs { under C.Constants consts.now RunsOver arena.now frames.old (record { instruction = fetched.number op n; end = end }) }
+    ensures { under C.Constants consts.now ActsAtOnce (record { instruction = fetched.number op n; end = end }) arena.now frames.old frames.new result }
 {
     match op {
         NumberOp::LoadFast => load_short(frames, arena, consts, n, end),

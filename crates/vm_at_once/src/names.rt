@@ -1,6 +1,6 @@
 //! Names of modules that are looked up, and texts.
 
-ghost use Rattle.state_values.specs.vm_fetching.declared.instruction.Instruction.TheVariants as fetched;
+ghost use Rattle.state_values.specs.vm_fetching.Instructions as fetched;
 ghost use Rattle.state_values.specs.prim_assignments.prim_faults.Sights.{under};
 ghost use Rattle.state_values.specs.vm_fetching.declared.operations.NameOp.TheVariants as name_ops;
 ghost use Rattle.state_values.specs.vm_states.Acting.{RunsOver};
@@ -20,9 +20,9 @@ fn load_name<C: Constants>(
     name: StrNo,
     end: u32,
 ) -> Option<u64>
-    requires runs { under C.Constants consts.now RunsOver arena.now frames.old (record { instruction = fetched.Name name_ops.LoadName name; end = end }) }
+    requires runs { under C.Constants consts.now RunsOver arena.now frames.old (record { instruction = fetched.name name_ops.LoadName name; end = end }) }
     ensures { under C.Constants consts.now ActsAtOnce (record {
-      instruction = fetched.Name name_ops.LoadName name;
+      instruction = fetched.name name_ops.LoadName name;
       end = end;
     }) arena.now frames.old frames.new result }
 {
@@ -39,9 +39,9 @@ fn load_global<C: Constants>(
     name: StrNo,
     end: u32,
 ) -> Option<u64>
-    requires runs { under C.Constants consts.now RunsOver arena.now frames.old (record { instruction = fetched.Name name_ops.LoadGlobal name; end = end }) }
+    requires runs { under C.Constants consts.now RunsOver arena.now frames.old (record { instruction = fetched.name name_ops.LoadGlobal name; end = end }) }
     ensures { under C.Constants consts.now ActsAtOnce (record {
-      instruction = fetched.Name name_ops.LoadGlobal name;
+      instruction = fetched.name name_ops.LoadGlobal name;
       end = end;
     }) arena.now frames.old frames.new result }
 {
@@ -59,8 +59,8 @@ pub(crate) fn name_at_once<C: Constants>(
     text: StrNo,
     end: u32,
 ) -> Option<u64>
-    requires runs { under C.Constants consts.now RunsOver arena.now frames.old (record { instruction = fetched.Name op text; end = end }) }
-    ensures { under C.Constants consts.now ActsAtOnce (record { instruction = fetched.Name op text; end = end }) arena.now frames.old frames.new result }
+    requires runs { under C.Constants consts.now RunsOver arena.now frames.old (record { instruction = fetched.name op text; end = end }) }
+    ensures { under C.Constants consts.now ActsAtOnce (record { instruction = fetched.name op text; end = end }) arena.now frames.old frames.new result }
 {
     match op {
         NameOp::LoadConstString => done(load_text(frames, arena, consts, text, end)),

@@ -41,7 +41,10 @@ use Rattle.vm_fetching.specs.declared.operations.CallOp.{CallOp}
 use Rattle.vm_fetching.specs.declared.operations.CallOp.TheVariants as call_ops
 use Rattle.vm_fetching.specs.declared.operations.JumpOp.{JumpOp}
 use Rattle.vm_fetching.specs.declared.instruction.Instruction.{Instruction}
-use Rattle.vm_fetching.specs.declared.instruction.Instruction.TheVariants as fetched
+use Rattle.vm_fetching.specs.declared.instruction.Action.{Action}
+use Rattle.vm_fetching.specs.declared.instruction.Action.TheVariants as actions
+use Rattle.vm_fetching.specs.declared.instruction.Step.TheVariants as steps
+use Rattle.vm_fetching.specs.Instructions as fetched
 use Rattle.vm_fetching.specs.Operations.{plain_op, leave_op, number_op, make_op, call_op, name_op, jump_op}
 use Rattle.vm_fetching.specs.Numbered.{IsNumbered, number, make, call, object}
 use Rattle.vm_fetching.specs.Families.{IsNamed, IsWhole}
@@ -144,29 +147,27 @@ module _ (shelf : Shelf) (i : ℕ) (row : Row) (v : IsVerifiedRow shelf i row) (
     its_plain : (o op : Op) → o ≡ op → machine.item_of (length l.items) (plain (instrs.Plain op)) ≡ machine.Plain (instrs.Plain o)
     its_plain o op e = ap (λ z. machine.Plain (instrs.Plain z)) (sym e)
 
-    pub shows_plain : (op : Op) (result : Instruction) → IsWhole op result → S (instrs.Plain op) result
-    shows_plain op (fetched.Plain o) e = record { item_is = its_plain (plain_op o) op e; target = tt; local = tt; text = tt; constant = tt }
-    shows_plain op (fetched.Leave o) e = record { item_is = its_plain (leave_op o) op e; target = tt; local = tt; text = tt; constant = tt }
-    shows_plain op fetched.Finish e = record { item_is = its_plain ops.EndFinally op e; target = tt; local = tt; text = tt; constant = tt }
-    shows_plain op (fetched.Number o n) e = absurd e
-    shows_plain op (fetched.Int z) e = absurd e
-    shows_plain op (fetched.Unary n) e = absurd e
-    shows_plain op (fetched.Binary n) e = absurd e
-    shows_plain op (fetched.Name o s) e = absurd e
-    shows_plain op (fetched.Object x) e = absurd e
-    shows_plain op (fetched.Jump o to) e = absurd e
-    shows_plain op (fetched.Unwind to byte) e = absurd e
-    shows_plain op (fetched.Make o n) e = absurd e
-    shows_plain op (fetched.Import n) e = absurd e
-    shows_plain op (fetched.Call o n) e = absurd e
+    pub shows_plain : (op : Op) (result : Action) → IsWhole op result → S (instrs.Plain op) (fetched.acts result)
+    shows_plain op (actions.Stays (steps.Plain o)) e = record { item_is = its_plain (plain_op o) op e; target = tt; local = tt; text = tt; constant = tt }
+    shows_plain op (actions.Leaves o) e = record { item_is = its_plain (leave_op o) op e; target = tt; local = tt; text = tt; constant = tt }
+    shows_plain op actions.Finishes e = record { item_is = its_plain ops.EndFinally op e; target = tt; local = tt; text = tt; constant = tt }
+    shows_plain op (actions.Stays (steps.Number o n)) e = absurd e
+    shows_plain op (actions.Stays (steps.Int z)) e = absurd e
+    shows_plain op (actions.Stays (steps.Unary n)) e = absurd e
+    shows_plain op (actions.Stays (steps.Name o s)) e = absurd e
+    shows_plain op (actions.Stays (steps.Object x)) e = absurd e
+    shows_plain op (actions.Stays (steps.Jump o to)) e = absurd e
+    shows_plain op (actions.Stays (steps.Unwind to byte)) e = absurd e
+    shows_plain op (actions.Makes o n) e = absurd e
+    shows_plain op (actions.Imports n) e = absurd e
 
-    pub shows_int : (z : ℤ) → IsSmall z → S (instrs.Int z) (fetched.Int z)
+    pub shows_int : (z : ℤ) → IsSmall z → S (instrs.Int z) (fetched.int z)
     shows_int z small = record { item_is = refl; target = tt; local = tt; text = tt; constant = small }
 
-    pub shows_unary : (n : ℕ) → S (instrs.Unary n) (fetched.Unary n)
+    pub shows_unary : (n : ℕ) → S (instrs.Unary n) (fetched.unary n)
     shows_unary n = record { item_is = refl; target = tt; local = tt; text = tt; constant = tt }
 
-    pub shows_binary : (n : ℕ) → S (instrs.Binary n) (fetched.Binary n)
+    pub shows_binary : (n : ℕ) → S (instrs.Binary n) (fetched.binary n)
     shows_binary n = record { item_is = refl; target = tt; local = tt; text = tt; constant = tt }
 
     -- a text of the pool, and the item that names it
@@ -186,33 +187,31 @@ module _ (shelf : Shelf) (i : ℕ) (row : Row) (v : IsVerifiedRow shelf i row) (
     its_there : (op : Op) (n k : ℕ) → text_at shelf (strs.Pool k) ≡ table_text shelf i n → Reads l at (instrs.Name op n) end → IsSome (text_at shelf (strs.Pool k))
     its_there op n k same r = ap is_some (its_text n k same (name_within op n r)).2
 
-    pub shows_name : (op : Op) (n k : ℕ) (result : Instruction) → IsNamed op k result → text_at shelf (strs.Pool k) ≡ table_text shelf i n → Reads l at (instrs.Name op n) end → S (instrs.Name op n) result
-    shows_name op n k (fetched.Name o s) e same r = record {
+    pub shows_name : (op : Op) (n k : ℕ) (result : Action) → IsNamed op k result → text_at shelf (strs.Pool k) ≡ table_text shelf i n → Reads l at (instrs.Name op n) end → S (instrs.Name op n) (fetched.acts result)
+    shows_name op n k (actions.Stays (steps.Name o s)) e same r = record {
       item_is = its_name (name_op o) op n k e.0 same r ∙ ap (λ (z : StrNo). machine.Names (name_op o) (text_of tables z)) (sym e.1);
       target = tt;
       local = tt;
       text = (k, e.1, ap (λ (z : StrNo). is_some (text_at shelf z)) e.1 ∙ its_there op n k same r);
       constant = tt;
     }
-    shows_name op n k (fetched.Import j) e same r = record {
+    shows_name op n k (actions.Imports j) e same r = record {
       item_is = its_name ops.ImportName op n k e.0 same r ∙ ap (λ (z : ℕ). machine.Names ops.ImportName (text_of tables (strs.Pool z))) (sym e.1);
       target = tt;
       local = tt;
       text = ap (λ (z : ℕ). is_some (text_at shelf (strs.Pool z))) e.1 ∙ its_there op n k same r;
       constant = tt;
     }
-    shows_name op n k fetched.Finish e same r = absurd e
-    shows_name op n k (fetched.Plain o) e same r = absurd e
-    shows_name op n k (fetched.Number o j) e same r = absurd e
-    shows_name op n k (fetched.Int z) e same r = absurd e
-    shows_name op n k (fetched.Unary j) e same r = absurd e
-    shows_name op n k (fetched.Binary j) e same r = absurd e
-    shows_name op n k (fetched.Object x) e same r = absurd e
-    shows_name op n k (fetched.Jump o to) e same r = absurd e
-    shows_name op n k (fetched.Unwind to byte) e same r = absurd e
-    shows_name op n k (fetched.Leave o) e same r = absurd e
-    shows_name op n k (fetched.Make o j) e same r = absurd e
-    shows_name op n k (fetched.Call o j) e same r = absurd e
+    shows_name op n k actions.Finishes e same r = absurd e
+    shows_name op n k (actions.Stays (steps.Plain o)) e same r = absurd e
+    shows_name op n k (actions.Stays (steps.Number o j)) e same r = absurd e
+    shows_name op n k (actions.Stays (steps.Int z)) e same r = absurd e
+    shows_name op n k (actions.Stays (steps.Unary j)) e same r = absurd e
+    shows_name op n k (actions.Stays (steps.Object x)) e same r = absurd e
+    shows_name op n k (actions.Stays (steps.Jump o to)) e same r = absurd e
+    shows_name op n k (actions.Stays (steps.Unwind to byte)) e same r = absurd e
+    shows_name op n k (actions.Leaves o) e same r = absurd e
+    shows_name op n k (actions.Makes o j) e same r = absurd e
 
     pub shows_number : (op : Op) (n : ℕ) (result : Instruction) → IsNumbered shelf i n op result → Reads l at (instrs.Num op n) end → S (instrs.Num op n) result
     shows_number op n result (number o) r =
@@ -237,7 +236,7 @@ module _ (shelf : Shelf) (i : ℕ) (row : Row) (v : IsVerifiedRow shelf i row) (
           constant = (i, n, e);
         }
 
-    pub shows_jump : (op : Op) (o : JumpOp) (offset : ℤ) (wide : Bool) (to q : ℕ) → jump_op o ≡ op → target l.offsets 0 (pos end +ℤ offset) ≡ Position q → Starts l.offsets to × (position_in l.offsets to ≡ q) → S (instrs.Jump op offset wide) (fetched.Jump o to)
+    pub shows_jump : (op : Op) (o : JumpOp) (offset : ℤ) (wide : Bool) (to q : ℕ) → jump_op o ≡ op → target l.offsets 0 (pos end +ℤ offset) ≡ Position q → Starts l.offsets to × (position_in l.offsets to ≡ q) → S (instrs.Jump op offset wide) (fetched.jump o to)
     shows_jump op o offset wide to q e place lands =
         record {
           item_is = ap (λ z. machine.Jumps op (machine.position_of (length l.items) z)) place ∙ (ap (λ z. machine.Jumps z q) (sym e) ∙ ap (machine.Jumps (jump_op o)) (sym lands.1));
@@ -247,7 +246,7 @@ module _ (shelf : Shelf) (i : ℕ) (row : Row) (v : IsVerifiedRow shelf i row) (
           constant = tt;
         }
 
-    pub shows_unwind : (offset : ℤ) (wide : Bool) (byte to q : ℕ) → target l.offsets 0 (pos (end - 1) +ℤ offset) ≡ Position q → Starts l.offsets to × (position_in l.offsets to ≡ q) → S (instrs.Unwind offset wide byte) (fetched.Unwind to byte)
+    pub shows_unwind : (offset : ℤ) (wide : Bool) (byte to q : ℕ) → target l.offsets 0 (pos (end - 1) +ℤ offset) ≡ Position q → Starts l.offsets to × (position_in l.offsets to ≡ q) → S (instrs.Unwind offset wide byte) (fetched.unwind to byte)
     shows_unwind offset wide byte to q place lands =
         record {
           item_is = ap (λ z. machine.Unwinds (machine.position_of (length l.items) z) byte) place ∙ ap (λ z. machine.Unwinds z byte) (sym lands.1);

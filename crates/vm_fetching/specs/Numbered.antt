@@ -9,12 +9,12 @@ use Rattle.vm_fetching.specs.declared.operations.NumberOp.{NumberOp}
 use Rattle.vm_fetching.specs.declared.operations.MakeOp.{MakeOp}
 use Rattle.vm_fetching.specs.declared.operations.CallOp.{CallOp}
 use Rattle.vm_fetching.specs.declared.instruction.Instruction.{Instruction}
-use Rattle.vm_fetching.specs.declared.instruction.Instruction.TheVariants as fetched
+use Rattle.vm_fetching.specs.Instructions as fetched
 use Rattle.vm_fetching.specs.Operations.{number_op, make_op, call_op}
 
 -- what an operation with the number `n` is, in a code of the module `i`
 pub data IsNumbered (shelf : Shelf) (i n : ℕ) : Op → Instruction → Type 0 where
-  number : (o : NumberOp) → IsNumbered shelf i n (number_op o) (fetched.Number o n)
-  make : (o : MakeOp) → IsNumbered shelf i n (make_op o) (fetched.Make o n)
-  call : (o : CallOp) → IsNumbered shelf i n (call_op o) (fetched.Call o n)
-  object : (v : Value) → object_value shelf i n ≡ Some v → IsNumbered shelf i n ops.LoadConstObj (fetched.Object v)
+  number : (o : NumberOp) → IsNumbered shelf i n (number_op o) (fetched.number o n)
+  make : (o : MakeOp) → IsNumbered shelf i n (make_op o) (fetched.make o n)
+  call : (o : CallOp) → IsNumbered shelf i n (call_op o) (fetched.call o n)
+  object : (v : Value) → object_value shelf i n ≡ Some v → IsNumbered shelf i n ops.LoadConstObj (fetched.object v)

@@ -18,32 +18,44 @@ use Rattle.frame_moves.specs.Shown.{Tables, text_of, value_of}
 use Rattle.vm_fetching.specs.declared.operations.NumberOp.{NumberOp}
 use Rattle.vm_fetching.specs.declared.operations.NumberOp.TheVariants as numbers
 use Rattle.vm_fetching.specs.declared.instruction.Instruction.{Instruction}
-use Rattle.vm_fetching.specs.declared.instruction.Instruction.TheVariants as fetched
+use Rattle.vm_fetching.specs.declared.instruction.Instruction.TheVariants as instructions
+use Rattle.vm_fetching.specs.declared.instruction.Action.{Action}
+use Rattle.vm_fetching.specs.declared.instruction.Action.TheVariants as actions
+use Rattle.vm_fetching.specs.declared.instruction.Step.{Step}
+use Rattle.vm_fetching.specs.declared.instruction.Step.TheVariants as steps
 use Rattle.vm_fetching.specs.Operations.{plain_op, leave_op, number_op, make_op, call_op, name_op, jump_op}
 
 -- the machine's item of what is fetched, where instructions start at these offsets
 module _ (tables : Tables) (starts : List ℕ) where
-  -- the item of what was fetched
+  -- of what stays in the running call
+  abbrev pub item_of_step : Step → Item
+  item_of_step (steps.Plain op) = machine.Plain (instrs.Plain (plain_op op))
+  item_of_step (steps.Number op n) = machine.Plain (instrs.Num (number_op op) n)
+  item_of_step (steps.Int z) = machine.Plain (instrs.Int z)
+  item_of_step (steps.Unary n) = machine.Plain (instrs.Unary n)
+  item_of_step (steps.Name op text) = machine.Names (name_op op) (text_of tables text)
+  item_of_step (steps.Object v) = machine.Loads (value_of tables v)
+  item_of_step (steps.Jump op target) = machine.Jumps (jump_op op) (position_in starts target)
+  item_of_step (steps.Unwind target byte) = machine.Unwinds (position_in starts target) byte
+
+  -- of what has no visits
+  abbrev pub item_of_action : Action → Item
+  item_of_action (actions.Stays step) = item_of_step step
+  item_of_action (actions.Leaves op) = machine.Plain (instrs.Plain (leave_op op))
+  item_of_action actions.Finishes = machine.Plain (instrs.Plain ops.EndFinally)
+  item_of_action (actions.Makes op n) = machine.Plain (instrs.Num (make_op op) n)
+  item_of_action (actions.Imports n) = machine.Names ops.ImportName (text_of tables (strs.Pool n))
+
+  -- of all
   abbrev pub item_of_fetched : Instruction → Item
-  item_of_fetched (fetched.Plain op) = machine.Plain (instrs.Plain (plain_op op))
-  item_of_fetched (fetched.Number op n) = machine.Plain (instrs.Num (number_op op) n)
-  item_of_fetched (fetched.Int z) = machine.Plain (instrs.Int z)
-  item_of_fetched (fetched.Unary n) = machine.Plain (instrs.Unary n)
-  item_of_fetched (fetched.Binary n) = machine.Plain (instrs.Binary n)
-  item_of_fetched (fetched.Name op text) = machine.Names (name_op op) (text_of tables text)
-  item_of_fetched (fetched.Object v) = machine.Loads (value_of tables v)
-  item_of_fetched (fetched.Jump op target) = machine.Jumps (jump_op op) (position_in starts target)
-  item_of_fetched (fetched.Unwind target byte) = machine.Unwinds (position_in starts target) byte
-  item_of_fetched (fetched.Leave op) = machine.Plain (instrs.Plain (leave_op op))
-  item_of_fetched fetched.Finish = machine.Plain (instrs.Plain ops.EndFinally)
-  item_of_fetched (fetched.Make op n) = machine.Plain (instrs.Num (make_op op) n)
-  item_of_fetched (fetched.Import n) = machine.Names ops.ImportName (text_of tables (strs.Pool n))
-  item_of_fetched (fetched.Call op n) = machine.Plain (instrs.Num (call_op op) n)
+  item_of_fetched (instructions.Acts action) = item_of_action action
+  item_of_fetched (instructions.Binary n) = machine.Plain (instrs.Binary n)
+  item_of_fetched (instructions.Calls op n) = machine.Plain (instrs.Num (call_op op) n)
 
 -- an instruction starts at the offset that it jumps to
 abbrev pub TargetStarts : List ℕ → Instruction → Type 0
-TargetStarts starts (fetched.Jump op target) = Starts starts target
-TargetStarts starts (fetched.Unwind target byte) = Starts starts target
+TargetStarts starts (instructions.Acts (actions.Stays (steps.Jump op target))) = Starts starts target
+TargetStarts starts (instructions.Acts (actions.Stays (steps.Unwind target byte))) = Starts starts target
 TargetStarts starts _ = Unit {0}
 
 -- the local with the number is one of `locals`, where the operation has the number of one
@@ -60,19 +72,19 @@ NumberIsWithin locals numbers.UnpackSequence n = Unit {0}
 
 -- the local that was named, if one was, is one of `locals`
 abbrev pub LocalIsWithin : (locals : ℕ) → Instruction → Type 0
-LocalIsWithin locals (fetched.Number op n) = NumberIsWithin locals op n
+LocalIsWithin locals (instructions.Acts (actions.Stays (steps.Number op n))) = NumberIsWithin locals op n
 LocalIsWithin locals _ = Unit {0}
 
 -- the text that it names is one of the library's pool
 abbrev pub TextIsThere : Shelf → Instruction → Type 0
-TextIsThere shelf (fetched.Name op text) = (n : ℕ) × (text ≡ strs.Pool n) × IsSome (text_at shelf text)
-TextIsThere shelf (fetched.Import n) = IsSome (text_at shelf (strs.Pool n))
+TextIsThere shelf (instructions.Acts (actions.Stays (steps.Name op text))) = (n : ℕ) × (text ≡ strs.Pool n) × IsSome (text_at shelf text)
+TextIsThere shelf (instructions.Acts (actions.Imports n)) = IsSome (text_at shelf (strs.Pool n))
 TextIsThere shelf _ = Unit {0}
 
 -- the object that it loads is one of a module of the library, and the integer is small
 abbrev pub ConstantIsThere : Shelf → Instruction → Type 0
-ConstantIsThere shelf (fetched.Object v) = (i : ℕ) × (n : ℕ) × (object_value shelf i n ≡ Some v)
-ConstantIsThere shelf (fetched.Int z) = IsSmall z
+ConstantIsThere shelf (instructions.Acts (actions.Stays (steps.Object v))) = (i : ℕ) × (n : ℕ) × (object_value shelf i n ≡ Some v)
+ConstantIsThere shelf (instructions.Acts (actions.Stays (steps.Int z))) = IsSmall z
 ConstantIsThere shelf _ = Unit {0}
 
 -- the instruction of a list that ends at the offset, with the numbers of the library

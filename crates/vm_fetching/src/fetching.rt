@@ -14,7 +14,7 @@ ghost use Rattle.vm_fetching.specs.Fetches.{AreOf, IsVerifiedRow, Fetches};
 ghost use Rattle.vm_fetching.specs.Numbered.{IsNumbered};
 ghost use Rattle.vm_fetching.specs.Shows.{Shows};
 
-use crate::instruction::{Fetched, Instruction};
+use crate::instruction::{Action, Fetched, Instruction, Step};
 use crate::looking::{object_of, text_of};
 use crate::operations::{CallOp, MakeOp, NumberOp, jump_op, named, plain};
 use bc_labels::jump_target;
@@ -44,20 +44,23 @@ fn numbered(library: &Library, module_number: u32, op: Op, n: u32) -> Instructio
     ensures { IsNumbered library.now module_number n op result }
 {
     match op {
-        Op::LoadFast => Instruction::Number(NumberOp::LoadFast, n),
-        Op::LoadFastN => Instruction::Number(NumberOp::LoadFastN, n),
-        Op::StoreFast => Instruction::Number(NumberOp::StoreFast, n),
-        Op::StoreFastN => Instruction::Number(NumberOp::StoreFastN, n),
-        Op::DeleteFast => Instruction::Number(NumberOp::DeleteFast, n),
-        Op::BuildTuple => Instruction::Number(NumberOp::BuildTuple, n),
-        Op::BuildList => Instruction::Number(NumberOp::BuildList, n),
-        Op::BuildMap => Instruction::Number(NumberOp::BuildMap, n),
-        Op::UnpackSequence => Instruction::Number(NumberOp::UnpackSequence, n),
-        Op::MakeFunction => Instruction::Make(MakeOp::MakeFunction, n),
-        Op::MakeFunctionDefargs => Instruction::Make(MakeOp::MakeFunctionDefargs, n),
-        Op::CallFunction => Instruction::Call(CallOp::CallFunction, n),
-        Op::CallMethod => Instruction::Call(CallOp::CallMethod, n),
-        _ => Instruction::Object(object_of(library, module_number, n)),
+        Op::LoadFast => Instruction::Acts(Action::Stays(Step::Number(NumberOp::LoadFast, n))),
+        Op::LoadFastN => Instruction::Acts(Action::Stays(Step::Number(NumberOp::LoadFastN, n))),
+        Op::StoreFast => Instruction::Acts(Action::Stays(Step::Number(NumberOp::StoreFast, n))),
+        Op::StoreFastN => Instruction::Acts(Action::Stays(Step::Number(NumberOp::StoreFastN, n))),
+        Op::DeleteFast => Instruction::Acts(Action::Stays(Step::Number(NumberOp::DeleteFast, n))),
+        Op::BuildTuple => Instruction::Acts(Action::Stays(Step::Number(NumberOp::BuildTuple, n))),
+        Op::BuildList => Instruction::Acts(Action::Stays(Step::Number(NumberOp::BuildList, n))),
+        Op::BuildMap => Instruction::Acts(Action::Stays(Step::Number(NumberOp::BuildMap, n))),
+        Op::UnpackSequence => Instruction::Acts(Action::Stays(Step::Number(NumberOp::UnpackSequence, n))),
+        Op::MakeFunction => Instruction::Acts(Action::Makes(MakeOp::MakeFunction, n)),
+        Op::MakeFunctionDefargs => Instruction::Acts(Action::Makes(MakeOp::MakeFunctionDefargs, n)),
+        Op::CallFunction => Instruction::Calls(CallOp::CallFunction, n),
+        Op::CallMethod => Instruction::Calls(CallOp::CallMethod, n),
+        _ => {
+            let v = object_of(library, module_number, n);
+            Instruction::Acts(Action::Stays(Step::Object(v)))
+        }
     }
 }
 
@@ -79,24 +82,30 @@ fn shown(
         → Shows library.now m tables row.now l end instr result }
 {
     match instr {
-        Instr::Plain(op) => plain(op),
-        Instr::Name(op, n) => named(op, text_of(library, module_number, n)),
+        Instr::Plain(op) => Instruction::Acts(plain(op)),
+        Instr::Name(op, n) => {
+            let text = text_of(library, module_number, n);
+            Instruction::Acts(named(op, text))
+        }
         Instr::Num(op, n) => numbered(library, module_number, op, n),
-        Instr::Int(n) => Instruction::Int(n),
+        Instr::Int(n) => Instruction::Acts(Action::Stays(Step::Int(n))),
         Instr::Jump {
             op,
             offset,
             wide: _,
-        } => Instruction::Jump(jump_op(op), jump_target(end, offset)),
+        } => {
+            let target = jump_target(end, offset);
+            Instruction::Acts(Action::Stays(Step::Jump(jump_op(op), target)))
+        }
         Instr::Unwind {
             offset,
             wide: _,
             byte,
-        } => Instruction::Unwind {
-            target: jump_target(end - 1, offset),
-            byte,
-        },
-        Instr::Unary(n) => Instruction::Unary(n),
+        } => {
+            let target = jump_target(end - 1, offset);
+            Instruction::Acts(Action::Stays(Step::Unwind { target, byte }))
+        }
+        Instr::Unary(n) => Instruction::Acts(Action::Stays(Step::Unary(n))),
         Instr::Binary(n) => Instruction::Binary(n),
     }
 }

@@ -3,17 +3,41 @@
 use crate::operations::{CallOp, JumpOp, LeaveOp, MakeOp, NameOp, NumberOp, PlainOp};
 use arena_heap::{StrNo, Value};
 
-/// An instruction by what carries it out, with the numbers of its library: a text, an object and the offset that it jumps to.
+/// An instruction by what it costs, with the numbers of its library: a text, an object and the offset that it jumps to.
 #[derive(Clone, Copy, Debug, PartialEq, Eq)]
 pub enum Instruction {
+    /// It makes no visits.
+    Acts(Action),
+    /// An operator over two operands, by its number. Its visits are paid first.
+    Binary(u8),
+    /// A call. The number says how many operands lie on top. Its visits are paid first.
+    Calls(CallOp, u32),
+}
+
+/// An instruction without visits, by where it leads.
+#[derive(Clone, Copy, Debug, PartialEq, Eq)]
+pub enum Action {
+    /// The running call goes on.
+    Stays(Step),
+    /// A return or a raise.
+    Leaves(LeaveOp),
+    /// The end of a finally.
+    Finishes,
+    /// A function of the child that has the number.
+    Makes(MakeOp, u32),
+    /// An import of the module whose name has the number in the library's pool.
+    Imports(u32),
+}
+
+/// An instruction that stays in the running call, by what it has.
+#[derive(Clone, Copy, Debug, PartialEq, Eq)]
+pub enum Step {
     Plain(PlainOp),
     Number(NumberOp, u32),
     /// Loads a small integer.
     Int(i32),
     /// A unary operator, by its number.
     Unary(u8),
-    /// A binary operator, by its number.
-    Binary(u8),
     Name(NameOp, StrNo),
     /// Loads an object.
     Object(Value),
@@ -21,16 +45,6 @@ pub enum Instruction {
     Jump(JumpOp, u32),
     /// The byte counts the entries that are left, and its highest bit says that an iterator is taken.
     Unwind { target: u32, byte: u8 },
-    /// A return or a raise.
-    Leave(LeaveOp),
-    /// The end of a finally.
-    Finish,
-    /// A function of the child that has the number.
-    Make(MakeOp, u32),
-    /// An import of the module whose name has the number in the library's pool.
-    Import(u32),
-    /// A call. The number says how many operands lie on top.
-    Call(CallOp, u32),
 }
 
 /// An instruction, and the offset that it ends at.

@@ -10,7 +10,7 @@ mod operations;
 
 pub use bc_rows::{Row, Rows, rows_law};
 pub use fetching::fetch;
-pub use instruction::{Fetched, Instruction};
+pub use instruction::{Action, Fetched, Instruction, Step};
 pub use law::step_law;
 pub use lines::line_of;
 pub use operations::{CallOp, JumpOp, LeaveOp, MakeOp, NameOp, NumberOp, PlainOp};

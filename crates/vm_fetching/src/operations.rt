@@ -7,7 +7,7 @@ ghost use Rattle.frame_moves.specs.bc_ops.Table.{code_of, form_of};
 ghost use Rattle.vm_fetching.specs.Families.{IsNamed, IsWhole};
 ghost use Rattle.vm_fetching.specs.Operations as operations;
 
-use crate::instruction::Instruction;
+use crate::instruction::{Action, Step};
 use arena_heap::StrNo;
 use bc_ops::Op;
 
@@ -97,51 +97,51 @@ pub enum JumpOp {
 
 /// The operation without an operand, by what carries it out.
 #[inline(always)]
-pub(crate) fn plain(op: Op) -> Instruction
+pub(crate) fn plain(op: Op) -> Action
     requires { form_of (code_of op) ≡ forms.Whole (instrs.Plain op) }
     ensures { IsWhole op result }
 {
     match op {
-        Op::LoadConstFalse => Instruction::Plain(PlainOp::LoadConstFalse),
-        Op::LoadConstNone => Instruction::Plain(PlainOp::LoadConstNone),
-        Op::LoadConstTrue => Instruction::Plain(PlainOp::LoadConstTrue),
-        Op::LoadNull => Instruction::Plain(PlainOp::LoadNull),
-        Op::LoadSubscr => Instruction::Plain(PlainOp::LoadSubscr),
-        Op::StoreSubscr => Instruction::Plain(PlainOp::StoreSubscr),
-        Op::DupTop => Instruction::Plain(PlainOp::DupTop),
-        Op::DupTopTwo => Instruction::Plain(PlainOp::DupTopTwo),
-        Op::PopTop => Instruction::Plain(PlainOp::PopTop),
-        Op::RotTwo => Instruction::Plain(PlainOp::RotTwo),
-        Op::RotThree => Instruction::Plain(PlainOp::RotThree),
-        Op::GetIterStack => Instruction::Plain(PlainOp::GetIterStack),
-        Op::StoreMap => Instruction::Plain(PlainOp::StoreMap),
-        Op::EndFinally => Instruction::Finish,
-        Op::ReturnValue => Instruction::Leave(LeaveOp::ReturnValue),
-        Op::RaiseLast => Instruction::Leave(LeaveOp::RaiseLast),
-        Op::RaiseObj => Instruction::Leave(LeaveOp::RaiseObj),
+        Op::LoadConstFalse => Action::Stays(Step::Plain(PlainOp::LoadConstFalse)),
+        Op::LoadConstNone => Action::Stays(Step::Plain(PlainOp::LoadConstNone)),
+        Op::LoadConstTrue => Action::Stays(Step::Plain(PlainOp::LoadConstTrue)),
+        Op::LoadNull => Action::Stays(Step::Plain(PlainOp::LoadNull)),
+        Op::LoadSubscr => Action::Stays(Step::Plain(PlainOp::LoadSubscr)),
+        Op::StoreSubscr => Action::Stays(Step::Plain(PlainOp::StoreSubscr)),
+        Op::DupTop => Action::Stays(Step::Plain(PlainOp::DupTop)),
+        Op::DupTopTwo => Action::Stays(Step::Plain(PlainOp::DupTopTwo)),
+        Op::PopTop => Action::Stays(Step::Plain(PlainOp::PopTop)),
+        Op::RotTwo => Action::Stays(Step::Plain(PlainOp::RotTwo)),
+        Op::RotThree => Action::Stays(Step::Plain(PlainOp::RotThree)),
+        Op::GetIterStack => Action::Stays(Step::Plain(PlainOp::GetIterStack)),
+        Op::StoreMap => Action::Stays(Step::Plain(PlainOp::StoreMap)),
+        Op::EndFinally => Action::Finishes,
+        Op::ReturnValue => Action::Leaves(LeaveOp::ReturnValue),
+        Op::RaiseLast => Action::Leaves(LeaveOp::RaiseLast),
+        Op::RaiseObj => Action::Leaves(LeaveOp::RaiseObj),
         _ => unreachable!(),
     }
 }
 
 /// The operation that names a text of the pool, by what carries it out.
 #[inline(always)]
-pub(crate) fn named(op: Op, text: u32) -> Instruction
+pub(crate) fn named(op: Op, text: u32) -> Action
     requires { form_of (code_of op) ≡ forms.Name op }
     ensures { IsNamed op text result }
 {
     match op {
-        Op::LoadConstString => Instruction::Name(NameOp::LoadConstString, StrNo::Pool(text)),
-        Op::LoadName => Instruction::Name(NameOp::LoadName, StrNo::Pool(text)),
-        Op::LoadGlobal => Instruction::Name(NameOp::LoadGlobal, StrNo::Pool(text)),
-        Op::StoreName => Instruction::Name(NameOp::StoreName, StrNo::Pool(text)),
-        Op::StoreGlobal => Instruction::Name(NameOp::StoreGlobal, StrNo::Pool(text)),
-        Op::DeleteName => Instruction::Name(NameOp::DeleteName, StrNo::Pool(text)),
-        Op::DeleteGlobal => Instruction::Name(NameOp::DeleteGlobal, StrNo::Pool(text)),
-        Op::LoadAttr => Instruction::Name(NameOp::LoadAttr, StrNo::Pool(text)),
-        Op::LoadMethod => Instruction::Name(NameOp::LoadMethod, StrNo::Pool(text)),
-        Op::StoreAttr => Instruction::Name(NameOp::StoreAttr, StrNo::Pool(text)),
-        Op::ImportFrom => Instruction::Name(NameOp::ImportFrom, StrNo::Pool(text)),
-        Op::ImportName => Instruction::Import(text),
+        Op::LoadConstString => Action::Stays(Step::Name(NameOp::LoadConstString, StrNo::Pool(text))),
+        Op::LoadName => Action::Stays(Step::Name(NameOp::LoadName, StrNo::Pool(text))),
+        Op::LoadGlobal => Action::Stays(Step::Name(NameOp::LoadGlobal, StrNo::Pool(text))),
+        Op::StoreName => Action::Stays(Step::Name(NameOp::StoreName, StrNo::Pool(text))),
+        Op::StoreGlobal => Action::Stays(Step::Name(NameOp::StoreGlobal, StrNo::Pool(text))),
+        Op::DeleteName => Action::Stays(Step::Name(NameOp::DeleteName, StrNo::Pool(text))),
+        Op::DeleteGlobal => Action::Stays(Step::Name(NameOp::DeleteGlobal, StrNo::Pool(text))),
+        Op::LoadAttr => Action::Stays(Step::Name(NameOp::LoadAttr, StrNo::Pool(text))),
+        Op::LoadMethod => Action::Stays(Step::Name(NameOp::LoadMethod, StrNo::Pool(text))),
+        Op::StoreAttr => Action::Stays(Step::Name(NameOp::StoreAttr, StrNo::Pool(text))),
+        Op::ImportFrom => Action::Stays(Step::Name(NameOp::ImportFrom, StrNo::Pool(text))),
+        Op::ImportName => Action::Imports(text),
         _ => unreachable!(),
     }
 }

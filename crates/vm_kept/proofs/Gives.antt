@@ -37,7 +37,7 @@ use Rattle.state_calls.specs.vm_fetching.declared.operations.CallOp.{CallOp}
 use Rattle.state_calls.specs.vm_fetching.declared.operations.CallOp.TheVariants as call_ops
 use Rattle.state_calls.specs.vm_fetching.Operations.{call_op}
 use Rattle.state_calls.specs.vm_fetching.declared.instruction.Fetched.{Fetched}
-use Rattle.state_calls.specs.vm_fetching.declared.instruction.Instruction.TheVariants as fetched
+use Rattle.state_calls.specs.vm_fetching.Instructions as fetched
 use Rattle.state_calls.specs.frame_calls.Operands.{operands_count}
 use Rattle.state_calls.specs.frame_calls.Putting.{with_value}
 use Rattle.state_calls.specs.vm_states.Means.{Program, Means}
@@ -48,7 +48,7 @@ use Rattle.vm_kept.proofs.Plain.{get_map, to_plain}
 use Rattle.vm_kept.proofs.Steps.{plain_of, first_later, kept_in}
 
 abbrev pub at_call : CallOp → (number end : ℕ) → Fetched
-at_call op number end = record { instruction = fetched.Call op number; end = end }
+at_call op number end = record { instruction = fetched.call op number; end = end }
 
 -- what a call takes: it gives one value
 record Takes (op : CallOp) (n : ℕ) : Type 0 where

@@ -17,7 +17,7 @@ ghost use Rattle.state_calls.specs.frame_moves.Shown.{running_of};
 ghost use Rattle.state_calls.specs.frame_moves.Outcomes.{world_of, stopping_of};
 ghost use Rattle.state_calls.specs.frame_exits.Ends.{with_modules};
 ghost use Rattle.state_calls.specs.vm_fetching.declared.operations.CallOp.{CallOp};
-ghost use Rattle.state_calls.specs.vm_fetching.declared.instruction.Instruction.TheVariants as fetched;
+ghost use Rattle.state_calls.specs.vm_fetching.Instructions as fetched;
 ghost use Rattle.state_calls.specs.frame_calls.Operands.{operands_count};
 ghost use Rattle.state_calls.specs.frame_calls.Putting.{with_value};
 ghost use Rattle.state_calls.specs.vm_states.Means.{Program, Means};
@@ -70,7 +70,7 @@ pub fn raises_law()
 /// With any value in the place of what a call takes, and at the next instruction, the calls keep what they kept.
 pub fn gives_law()
     ensures { (p : Program) (s new : Calls) (row : Row) (op : CallOp) (number end size : ℕ) (v : Value) (before behind : Objects Value ℕ) → Means p
-        → IsReady p s row (record { instruction = fetched.Call op number; end = end })
+        → IsReady p s row (record { instruction = fetched.call op number; end = end })
         → size ≡ operands_count number + callee_slots op → HoldsKept p before s → Later before behind
         → new ≡ on_running (with_value end size v) s → HoldsKept p behind new }
 {}

@@ -9,7 +9,7 @@ use Rattle.frame_calls.specs.prim_calls.Callees.{IsKnownCallee}
 use Rattle.frame_calls.specs.prim_calls.declared.calls.CallStop.TheVariants as calls
 use Rattle.frame_calls.specs.prim_calls.declared.callees.Callee.{Callee}
 use Rattle.frame_calls.specs.prim_calls.declared.callees.Callee.TheVariants as callees
-use Rattle.vm_states.specs.vm_fetching.declared.instruction.Instruction.TheVariants as fetched
+use Rattle.vm_states.specs.vm_fetching.Instructions as fetched
 use Rattle.frame_calls.specs.Built.{IsCalled, IsKnownCallStop}
 use Rattle.state_calls.specs.Called.{is_out, CallComes, HeapComes}
 use Rattle.state_calls.proofs.Heaps as heaps
@@ -46,7 +46,7 @@ act_method-requires-clause-known g c =
 
 pub act_method-requires-clause-all_told : goal.act_method-requires-clause-all_told
 act_method-requires-clause-all_told g c =
-    takings.told_there c.args.library.now c.args.arena.now c.args.frames.now (record { instruction = fetched.Call c.args.op c.args.number; end = c.args.end }) c.requires.runs.runs
+    takings.told_there c.args.library.now c.args.arena.now c.args.frames.now (record { instruction = fetched.call c.args.op c.args.number; end = c.args.end }) c.requires.runs.runs
 
 pub act_builtin-requires-clause-some : goal.act_builtin-requires-clause-some
 act_builtin-requires-clause-some g c =
@@ -66,7 +66,7 @@ act_builtin-requires-clause-known g c =
 
 pub act_builtin-requires-clause-all_told : goal.act_builtin-requires-clause-all_told
 act_builtin-requires-clause-all_told g c =
-    takings.told_there c.args.library.now c.args.arena.now c.args.frames.now (record { instruction = fetched.Call c.args.op c.args.number; end = c.args.end }) c.requires.runs.runs
+    takings.told_there c.args.library.now c.args.arena.now c.args.frames.now (record { instruction = fetched.call c.args.op c.args.number; end = c.args.end }) c.requires.runs.runs
 
 pub returns-in-Method-clause-called : goal.returns-in-Method-clause-called
 returns-in-Method-clause-called g c p row means shelf_is state r w told tell =

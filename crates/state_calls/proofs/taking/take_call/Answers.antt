@@ -3,7 +3,7 @@ use Rattle.vm_states.specs.bc_library.Constants.{items_at, text_at}
 use Rattle.vm_states.specs.frame_moves.Shown.{view_of}
 use Rattle.vm_states.specs.vm_fetching.declared.operations.CallOp.{CallOp}
 use Rattle.vm_states.specs.vm_fetching.declared.operations.CallOp.TheVariants as call_ops
-use Rattle.vm_states.specs.vm_fetching.declared.instruction.Instruction.TheVariants as fetched
+use Rattle.vm_states.specs.vm_fetching.Instructions as fetched
 use Rattle.state_calls.specs.Taken.{IsTaken}
 use Rattle.state_calls.proofs.Takings as takings
 use Rattle.state_calls.proofs.taking.take_call.Goals as goal
@@ -34,7 +34,7 @@ call_function-requires-clause-known c =
 
 pub call_function-requires-clause-all_told : goal.call_function-requires-clause-all_told
 call_function-requires-clause-all_told c =
-    takings.told_there c.args.library.now c.args.arena.now c.args.frames.now (record { instruction = fetched.Call c.args.op c.args.number; end = c.args.end }) c.requires.runs.runs
+    takings.told_there c.args.library.now c.args.arena.now c.args.frames.now (record { instruction = fetched.call c.args.op c.args.number; end = c.args.end }) c.requires.runs.runs
 
 pub returns-in-CallFunction-clause-taken : goal.returns-in-CallFunction-clause-taken
 returns-in-CallFunction-clause-taken c =
@@ -58,7 +58,7 @@ call_method-requires-clause-known c =
 
 pub call_method-requires-clause-all_told : goal.call_method-requires-clause-all_told
 call_method-requires-clause-all_told c =
-    takings.told_there c.args.library.now c.args.arena.now c.args.frames.now (record { instruction = fetched.Call c.args.op c.args.number; end = c.args.end }) c.requires.runs.runs
+    takings.told_there c.args.library.now c.args.arena.now c.args.frames.now (record { instruction = fetched.call c.args.op c.args.number; end = c.args.end }) c.requires.runs.runs
 
 pub returns-in-CallMethod-clause-taken : goal.returns-in-CallMethod-clause-taken
 returns-in-CallMethod-clause-taken c =

@@ -1,6 +1,6 @@
 use Rattle.std.proofs.Common.{subst, sym}
 use Rattle.vm_states.specs.vm_fetching.declared.operations.JumpOp.{JumpOp}
-use Rattle.vm_states.specs.vm_fetching.declared.instruction.Instruction.TheVariants as fetched
+use Rattle.vm_states.specs.vm_fetching.Instructions as fetched
 use Rattle.state_values.specs.Keeping.{ActsKeeping}
 use Rattle.state_values.proofs.operating.jump_to.Goals as goal
 
@@ -9,7 +9,7 @@ returns-in-Jump g c =
     let texts = g.C.Constants.text_of c.args.consts.now in
     let tuples = g.C.Constants.items_of c.args.consts.now in
     record {
-      acts = subst (λ (o : JumpOp). ActsKeeping texts tuples (record { instruction = fetched.Jump o c.args.target; end = c.args.end }) 0 c.args.arena.now c.args.arena.now c.args.frames.now c.jump.new.frames c.jump.result) (sym c.in-Jump.is) c.jump.ensures.acts;
+      acts = subst (λ (o : JumpOp). ActsKeeping texts tuples (record { instruction = fetched.jump o c.args.target; end = c.args.end }) 0 c.args.arena.now c.args.arena.now c.args.frames.now c.jump.new.frames c.jump.result) (sym c.in-Jump.is) c.jump.ensures.acts;
     }
 
 pub returns-in-SetupExcept : goal.returns-in-SetupExcept
@@ -17,7 +17,7 @@ returns-in-SetupExcept g c =
     let texts = g.C.Constants.text_of c.args.consts.now in
     let tuples = g.C.Constants.items_of c.args.consts.now in
     record {
-      acts = subst (λ (o : JumpOp). ActsKeeping texts tuples (record { instruction = fetched.Jump o c.args.target; end = c.args.end }) 0 c.args.arena.now c.args.arena.now c.args.frames.now c.setup_except.new.frames c.setup_except.result) (sym c.in-SetupExcept.is) c.setup_except.ensures.acts;
+      acts = subst (λ (o : JumpOp). ActsKeeping texts tuples (record { instruction = fetched.jump o c.args.target; end = c.args.end }) 0 c.args.arena.now c.args.arena.now c.args.frames.now c.setup_except.new.frames c.setup_except.result) (sym c.in-SetupExcept.is) c.setup_except.ensures.acts;
     }
 
 pub returns-in-SetupFinally : goal.returns-in-SetupFinally
@@ -25,7 +25,7 @@ returns-in-SetupFinally g c =
     let texts = g.C.Constants.text_of c.args.consts.now in
     let tuples = g.C.Constants.items_of c.args.consts.now in
     record {
-      acts = subst (λ (o : JumpOp). ActsKeeping texts tuples (record { instruction = fetched.Jump o c.args.target; end = c.args.end }) 0 c.args.arena.now c.args.arena.now c.args.frames.now c.setup_finally.new.frames c.setup_finally.result) (sym c.in-SetupFinally.is) c.setup_finally.ensures.acts;
+      acts = subst (λ (o : JumpOp). ActsKeeping texts tuples (record { instruction = fetched.jump o c.args.target; end = c.args.end }) 0 c.args.arena.now c.args.arena.now c.args.frames.now c.setup_finally.new.frames c.setup_finally.result) (sym c.in-SetupFinally.is) c.setup_finally.ensures.acts;
     }
 
 pub returns-in-PopExceptJump : goal.returns-in-PopExceptJump
@@ -33,7 +33,7 @@ returns-in-PopExceptJump g c =
     let texts = g.C.Constants.text_of c.args.consts.now in
     let tuples = g.C.Constants.items_of c.args.consts.now in
     record {
-      acts = subst (λ (o : JumpOp). ActsKeeping texts tuples (record { instruction = fetched.Jump o c.args.target; end = c.args.end }) 0 c.args.arena.now c.args.arena.now c.args.frames.now c.pop_except_jump.new.frames c.pop_except_jump.result) (sym c.in-PopExceptJump.is) c.pop_except_jump.ensures.acts;
+      acts = subst (λ (o : JumpOp). ActsKeeping texts tuples (record { instruction = fetched.jump o c.args.target; end = c.args.end }) 0 c.args.arena.now c.args.arena.now c.args.frames.now c.pop_except_jump.new.frames c.pop_except_jump.result) (sym c.in-PopExceptJump.is) c.pop_except_jump.ensures.acts;
     }
 
 pub returns-in-ForIter : goal.returns-in-ForIter
@@ -41,5 +41,5 @@ returns-in-ForIter g c =
     let texts = g.C.Constants.text_of c.args.consts.now in
     let tuples = g.C.Constants.items_of c.args.consts.now in
     record {
-      acts = subst (λ (o : JumpOp). ActsKeeping texts tuples (record { instruction = fetched.Jump o c.args.target; end = c.args.end }) 0 c.args.arena.now c.for_iter.new.arena c.args.frames.now c.for_iter.new.frames c.for_iter.result) (sym c.in-ForIter.is) c.for_iter.ensures.acts;
+      acts = subst (λ (o : JumpOp). ActsKeeping texts tuples (record { instruction = fetched.jump o c.args.target; end = c.args.end }) 0 c.args.arena.now c.for_iter.new.arena c.args.frames.now c.for_iter.new.frames c.for_iter.result) (sym c.in-ForIter.is) c.for_iter.ensures.acts;
     }

@@ -5,7 +5,7 @@ use Rattle.frame_moves.specs.bc_ops.Code.{IsEncodable}
 use Rattle.frame_moves.specs.bc_ops.Listing.{target}
 use Rattle.frame_moves.specs.bc_ops.Table.{code_of, form_of}
 use Rattle.frame_moves.specs.bc_labels.Positions.{Reads}
-use Rattle.vm_fetching.specs.declared.instruction.Instruction.TheVariants as fetched
+use Rattle.vm_fetching.specs.Instructions as fetched
 use Rattle.vm_fetching.specs.Shows.{Shows}
 use Rattle.vm_fetching.proofs.Showing as showing
 use Rattle.vm_fetching.proofs.fetching.shown.Goals as goal
@@ -55,13 +55,13 @@ jump_target-requires-in-Unwind c =
 pub returns-in-Plain : goal.returns-in-Plain
 returns-in-Plain c tables m l of there listed st r =
     let shelf = c.args.library.now in
-    subst (λ (z : Instr). Shows shelf m tables c.args.row.now l c.args.end z c.plain.result) (sym c.in-Plain.is)
+    subst (λ (z : Instr). Shows shelf m tables c.args.row.now l c.args.end z (fetched.acts c.plain.result)) (sym c.in-Plain.is)
     (showing.shows_plain shelf c.args.module_number c.args.row.now c.requires.row m there l listed c.args.at c.args.end tables of c.in-Plain.op c.plain.result c.plain.ensures)
 
 pub returns-in-Name : goal.returns-in-Name
 returns-in-Name c tables m l of there listed st r =
     let shelf = c.args.library.now in
-    subst (λ (z : Instr). Shows shelf m tables c.args.row.now l c.args.end z c.named.result) (sym c.in-Name.is)
+    subst (λ (z : Instr). Shows shelf m tables c.args.row.now l c.args.end z (fetched.acts c.named.result)) (sym c.in-Name.is)
     (showing.shows_name shelf c.args.module_number c.args.row.now c.requires.row m there l listed c.args.at c.args.end tables of c.in-Name.op c.in-Name.n c.text_of.result c.named.result c.named.ensures c.text_of.ensures
     (subst (λ z. Reads l c.args.at z c.args.end) c.in-Name.is r))
 
@@ -76,8 +76,8 @@ pub returns-in-Int : goal.returns-in-Int
 returns-in-Int c tables m l of there listed st r =
     let shelf = c.args.library.now in
     let fits : SFits w32 c.in-Int.n = search rules in
-    subst (λ (n : ℤ). Shows shelf m tables c.args.row.now l c.args.end c.args.instr (fetched.Int n)) (sym (to_z-of_z w32 c.in-Int.n fits))
-    (subst (λ (z : Instr). Shows shelf m tables c.args.row.now l c.args.end z (fetched.Int c.in-Int.n)) (sym c.in-Int.is)
+    subst (λ (n : ℤ). Shows shelf m tables c.args.row.now l c.args.end c.args.instr (fetched.int n)) (sym (to_z-of_z w32 c.in-Int.n fits))
+    (subst (λ (z : Instr). Shows shelf m tables c.args.row.now l c.args.end z (fetched.int c.in-Int.n)) (sym c.in-Int.is)
     (showing.shows_int shelf c.args.module_number c.args.row.now c.requires.row m there l listed c.args.at c.args.end tables of c.in-Int.n
     (subst (λ z. Reads l c.args.at z c.args.end) c.in-Int.is r).encodable))
 
@@ -88,7 +88,7 @@ returns-in-Jump c tables m l of there listed st r =
     let fits : SFits w32 c.in-Jump.offset = search rules in
     let same = to_z-of_z w32 c.in-Jump.offset fits in
     let p = showing.jump_place shelf c.args.module_number c.args.row.now c.requires.row m there l listed c.args.at c.args.end c.in-Jump.op c.in-Jump.offset c.in-Jump.wide reads in
-    subst (λ (z : Instr). Shows shelf m tables c.args.row.now l c.args.end z (fetched.Jump c.jump_op.result c.jump_target.result)) (sym c.in-Jump.is)
+    subst (λ (z : Instr). Shows shelf m tables c.args.row.now l c.args.end z (fetched.jump c.jump_op.result c.jump_target.result)) (sym c.in-Jump.is)
     (showing.shows_jump shelf c.args.module_number c.args.row.now c.requires.row m there l listed c.args.at c.args.end tables of c.in-Jump.op c.jump_op.result c.in-Jump.offset c.in-Jump.wide c.jump_target.result p.0 c.jump_op.ensures p.1
     (c.jump_target.ensures c.args.row.now.instructions.now l p.0 listed (ap (λ (z : ℤ). target l.offsets 0 (pos c.args.end +ℤ z)) same ∙ p.1)))
 
@@ -99,18 +99,18 @@ returns-in-Unwind c tables m l of there listed st r =
     let fits : SFits w32 c.in-Unwind.offset = search rules in
     let same = to_z-of_z w32 c.in-Unwind.offset fits in
     let p = showing.unwind_place shelf c.args.module_number c.args.row.now c.requires.row m there l listed c.args.at c.args.end c.in-Unwind.offset c.in-Unwind.wide c.in-Unwind.byte reads in
-    subst (λ (z : Instr). Shows shelf m tables c.args.row.now l c.args.end z (fetched.Unwind c.jump_target-in-Unwind.result c.in-Unwind.byte)) (sym c.in-Unwind.is)
+    subst (λ (z : Instr). Shows shelf m tables c.args.row.now l c.args.end z (fetched.unwind c.jump_target-in-Unwind.result c.in-Unwind.byte)) (sym c.in-Unwind.is)
     (showing.shows_unwind shelf c.args.module_number c.args.row.now c.requires.row m there l listed c.args.at c.args.end tables of c.in-Unwind.offset c.in-Unwind.wide c.in-Unwind.byte c.jump_target-in-Unwind.result p.0 p.1
     (c.jump_target-in-Unwind.ensures c.args.row.now.instructions.now l p.0 listed (ap (λ (z : ℤ). target l.offsets 0 (pos (c.args.end - 1) +ℤ z)) same ∙ p.1)))
 
 pub returns-in-Unary : goal.returns-in-Unary
 returns-in-Unary c tables m l of there listed st r =
     let shelf = c.args.library.now in
-    subst (λ (z : Instr). Shows shelf m tables c.args.row.now l c.args.end z (fetched.Unary c.in-Unary.n)) (sym c.in-Unary.is)
+    subst (λ (z : Instr). Shows shelf m tables c.args.row.now l c.args.end z (fetched.unary c.in-Unary.n)) (sym c.in-Unary.is)
     (showing.shows_unary shelf c.args.module_number c.args.row.now c.requires.row m there l listed c.args.at c.args.end tables of c.in-Unary.n)
 
 pub returns-in-Binary : goal.returns-in-Binary
 returns-in-Binary c tables m l of there listed st r =
     let shelf = c.args.library.now in
-    subst (λ (z : Instr). Shows shelf m tables c.args.row.now l c.args.end z (fetched.Binary c.in-Binary.n)) (sym c.in-Binary.is)
+    subst (λ (z : Instr). Shows shelf m tables c.args.row.now l c.args.end z (fetched.binary c.in-Binary.n)) (sym c.in-Binary.is)
     (showing.shows_binary shelf c.args.module_number c.args.row.now c.requires.row m there l listed c.args.at c.args.end tables of c.in-Binary.n)
