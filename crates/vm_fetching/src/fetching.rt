@@ -52,7 +52,10 @@ fn numbered(library: &Library, module_number: u32, op: Op, n: u32) -> Instructio
         Op::BuildTuple => Instruction::Acts(Action::Stays(Step::Number(NumberOp::BuildTuple, n))),
         Op::BuildList => Instruction::Acts(Action::Stays(Step::Number(NumberOp::BuildList, n))),
         Op::BuildMap => Instruction::Acts(Action::Stays(Step::Number(NumberOp::BuildMap, n))),
-        Op::UnpackSequence => Instruction::Acts(Action::Stays(Step::Number(NumberOp::UnpackSequence, n))),
+        Op::UnpackSequence => Instruction::Acts(Action::Stays(Step::Number(
+            NumberOp::UnpackSequence,
+            n,
+        ))),
         Op::MakeFunction => Instruction::Acts(Action::Makes(MakeOp::MakeFunction, n)),
         Op::MakeFunctionDefargs => Instruction::Acts(Action::Makes(MakeOp::MakeFunctionDefargs, n)),
         Op::CallFunction => Instruction::Calls(CallOp::CallFunction, n),

@@ -130,7 +130,10 @@ pub(crate) fn named(op: Op, text: u32) -> Action
     ensures { IsNamed op text result }
 {
     match op {
-        Op::LoadConstString => Action::Stays(Step::Name(NameOp::LoadConstString, StrNo::Pool(text))),
+        Op::LoadConstString => Action::Stays(Step::Name(
+            NameOp::LoadConstString,
+            StrNo::Pool(text),
+        )),
         Op::LoadName => Action::Stays(Step::Name(NameOp::LoadName, StrNo::Pool(text))),
         Op::LoadGlobal => Action::Stays(Step::Name(NameOp::LoadGlobal, StrNo::Pool(text))),
         Op::StoreName => Action::Stays(Step::Name(NameOp::StoreName, StrNo::Pool(text))),

@@ -38,13 +38,7 @@ fn operate_on(vm: &mut Vm, library: &Library, row: &Row<'_>, step: Step, end: u3
 
 /// Carries out an operator over two operands.
 #[tactic(none)]
-pub(crate) fn operate_binary_on(
-    vm: &mut Vm,
-    library: &Library,
-    row: &Row<'_>,
-    number: u8,
-    end: u32,
-)
+pub(crate) fn operate_binary_on(vm: &mut Vm, library: &Library, row: &Row<'_>, number: u8, end: u32)
     requires fetched { HasFetched library.now vm.old row.now (record { instruction = fetched_as.binary number; end = end }) }
     ensures { Acted library.now (visits_binary (text_at library.now) (items_at library.now) vm.old.arena vm.old.frames.calls number) vm.old vm.new }
 {

@@ -15,4 +15,3 @@ binary_at_once-requires g c = record { runs = runs_at (g.C.Constants.text_of c.a
 
 pub returns-in-Binary : goal.returns-in-Binary
 returns-in-Binary g c = record { acts = acts_at (g.C.Constants.text_of c.args.consts.now) (g.C.Constants.items_of c.args.consts.now) c.args.fetched (fetched.binary c.in-Binary.number) c.in-Binary.is c.args.arena.now c.args.frames.now c.binary_at_once.new.frames c.binary_at_once.result c.binary_at_once.ensures }
-
