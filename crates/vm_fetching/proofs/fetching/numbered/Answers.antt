@@ -46,11 +46,11 @@ returns-in-CallFunction c = subst (λ z. IsNumbered c.args.library.now c.args.mo
 pub returns-in-CallMethod : goal.returns-in-CallMethod
 returns-in-CallMethod c = subst (λ z. IsNumbered c.args.library.now c.args.module_number c.args.n z (fetched.call call_ops.CallMethod c.args.n)) (sym c.in-CallMethod.is) (call call_ops.CallMethod)
 
-pub object_of-requires : goal.object_of-requires
-object_of-requires c = c.requires.there (not_number c.args.op c.args.n c.in_default.not-LoadFast c.in_default.not-LoadFastN c.in_default.not-StoreFast c.in_default.not-StoreFastN c.in_default.not-DeleteFast c.in_default.not-BuildTuple c.in_default.not-BuildList c.in_default.not-BuildMap c.in_default.not-UnpackSequence c.in_default.not-MakeFunction c.in_default.not-MakeFunctionDefargs c.in_default.not-CallFunction c.in_default.not-CallMethod c.requires.form)
+pub object_of-v-requires : goal.object_of-v-requires
+object_of-v-requires c = c.requires.there (not_number c.args.op c.args.n c.in_default.not-LoadFast c.in_default.not-LoadFastN c.in_default.not-StoreFast c.in_default.not-StoreFastN c.in_default.not-DeleteFast c.in_default.not-BuildTuple c.in_default.not-BuildList c.in_default.not-BuildMap c.in_default.not-UnpackSequence c.in_default.not-MakeFunction c.in_default.not-MakeFunctionDefargs c.in_default.not-CallFunction c.in_default.not-CallMethod c.requires.form)
 
 pub returns-in_default : goal.returns-in_default
 returns-in_default c =
-    subst (λ z. IsNumbered c.args.library.now c.args.module_number c.args.n z (fetched.object c.object_of.result))
+    subst (λ z. IsNumbered c.args.library.now c.args.module_number c.args.n z (fetched.object c.object_of-v.result))
     (sym (not_number c.args.op c.args.n c.in_default.not-LoadFast c.in_default.not-LoadFastN c.in_default.not-StoreFast c.in_default.not-StoreFastN c.in_default.not-DeleteFast c.in_default.not-BuildTuple c.in_default.not-BuildList c.in_default.not-BuildMap c.in_default.not-UnpackSequence c.in_default.not-MakeFunction c.in_default.not-MakeFunctionDefargs c.in_default.not-CallFunction c.in_default.not-CallMethod c.requires.form))
-    (object c.object_of.result c.object_of.ensures)
+    (object c.object_of-v.result c.object_of-v.ensures)

@@ -16,8 +16,8 @@ plain-requires c = subst IsEncodable c.in-Plain.is c.requires.reads.3.encodable
 pub named-requires : goal.named-requires
 named-requires c = (subst IsEncodable c.in-Name.is c.requires.reads.3.encodable).0
 
-pub text_of-requires : goal.text_of-requires
-text_of-requires c =
+pub text_of-text-requires : goal.text_of-text-requires
+text_of-text-requires c =
     let v = c.requires.row in
     let q = c.requires.reads in
     showing.name_entry c.args.library.now c.args.module_number c.args.row.now v v.m v.there q.0 q.1 c.args.at c.args.end c.in-Name.op c.in-Name.n (subst (λ z. Reads q.0 c.args.at z c.args.end) c.in-Name.is q.3)
@@ -34,8 +34,8 @@ numbered-requires-clause-there c e =
 pub jump_op-requires : goal.jump_op-requires
 jump_op-requires c = showing.jump_form c.in-Jump.op c.in-Jump.wide c.in-Jump.offset (form_of (code_of c.in-Jump.op)) refl (subst IsEncodable c.in-Jump.is c.requires.reads.3.encodable)
 
-pub jump_target-requires : goal.jump_target-requires
-jump_target-requires c =
+pub jump_target-target-requires : goal.jump_target-target-requires
+jump_target-target-requires c =
     let v = c.requires.row in
     let q = c.requires.reads in
     let fits : SFits w32 c.in-Jump.offset = search rules in
@@ -43,8 +43,8 @@ jump_target-requires c =
     let p = showing.jump_place c.args.library.now c.args.module_number c.args.row.now v v.m v.there q.0 q.1 c.args.at c.args.end c.in-Jump.op c.in-Jump.offset c.in-Jump.wide (subst (λ z. Reads q.0 c.args.at z c.args.end) c.in-Jump.is q.3) in
     (c.args.row.now.instructions.now, q.0, p.0, v.is_row.is_row.short, q.1, ap (λ (z : ℤ). target q.0.offsets 0 (pos c.args.end +ℤ z)) same ∙ p.1)
 
-pub jump_target-requires-in-Unwind : goal.jump_target-requires-in-Unwind
-jump_target-requires-in-Unwind c =
+pub jump_target-target-requires-in-Unwind : goal.jump_target-target-requires-in-Unwind
+jump_target-target-requires-in-Unwind c =
     let v = c.requires.row in
     let q = c.requires.reads in
     let fits : SFits w32 c.in-Unwind.offset = search rules in
@@ -62,7 +62,7 @@ pub returns-in-Name : goal.returns-in-Name
 returns-in-Name c tables m l of there listed st r =
     let shelf = c.args.library.now in
     subst (λ (z : Instr). Shows shelf m tables c.args.row.now l c.args.end z (fetched.acts c.named.result)) (sym c.in-Name.is)
-    (showing.shows_name shelf c.args.module_number c.args.row.now c.requires.row m there l listed c.args.at c.args.end tables of c.in-Name.op c.in-Name.n c.text_of.result c.named.result c.named.ensures c.text_of.ensures
+    (showing.shows_name shelf c.args.module_number c.args.row.now c.requires.row m there l listed c.args.at c.args.end tables of c.in-Name.op c.in-Name.n c.text_of-text.result c.named.result c.named.ensures c.text_of-text.ensures
     (subst (λ z. Reads l c.args.at z c.args.end) c.in-Name.is r))
 
 pub returns-in-Num : goal.returns-in-Num
@@ -88,9 +88,9 @@ returns-in-Jump c tables m l of there listed st r =
     let fits : SFits w32 c.in-Jump.offset = search rules in
     let same = to_z-of_z w32 c.in-Jump.offset fits in
     let p = showing.jump_place shelf c.args.module_number c.args.row.now c.requires.row m there l listed c.args.at c.args.end c.in-Jump.op c.in-Jump.offset c.in-Jump.wide reads in
-    subst (λ (z : Instr). Shows shelf m tables c.args.row.now l c.args.end z (fetched.jump c.jump_op.result c.jump_target.result)) (sym c.in-Jump.is)
-    (showing.shows_jump shelf c.args.module_number c.args.row.now c.requires.row m there l listed c.args.at c.args.end tables of c.in-Jump.op c.jump_op.result c.in-Jump.offset c.in-Jump.wide c.jump_target.result p.0 c.jump_op.ensures p.1
-    (c.jump_target.ensures c.args.row.now.instructions.now l p.0 listed (ap (λ (z : ℤ). target l.offsets 0 (pos c.args.end +ℤ z)) same ∙ p.1)))
+    subst (λ (z : Instr). Shows shelf m tables c.args.row.now l c.args.end z (fetched.jump c.jump_op.result c.jump_target-target.result)) (sym c.in-Jump.is)
+    (showing.shows_jump shelf c.args.module_number c.args.row.now c.requires.row m there l listed c.args.at c.args.end tables of c.in-Jump.op c.jump_op.result c.in-Jump.offset c.in-Jump.wide c.jump_target-target.result p.0 c.jump_op.ensures p.1
+    (c.jump_target-target.ensures c.args.row.now.instructions.now l p.0 listed (ap (λ (z : ℤ). target l.offsets 0 (pos c.args.end +ℤ z)) same ∙ p.1)))
 
 pub returns-in-Unwind : goal.returns-in-Unwind
 returns-in-Unwind c tables m l of there listed st r =
@@ -99,9 +99,9 @@ returns-in-Unwind c tables m l of there listed st r =
     let fits : SFits w32 c.in-Unwind.offset = search rules in
     let same = to_z-of_z w32 c.in-Unwind.offset fits in
     let p = showing.unwind_place shelf c.args.module_number c.args.row.now c.requires.row m there l listed c.args.at c.args.end c.in-Unwind.offset c.in-Unwind.wide c.in-Unwind.byte reads in
-    subst (λ (z : Instr). Shows shelf m tables c.args.row.now l c.args.end z (fetched.unwind c.jump_target-in-Unwind.result c.in-Unwind.byte)) (sym c.in-Unwind.is)
-    (showing.shows_unwind shelf c.args.module_number c.args.row.now c.requires.row m there l listed c.args.at c.args.end tables of c.in-Unwind.offset c.in-Unwind.wide c.in-Unwind.byte c.jump_target-in-Unwind.result p.0 p.1
-    (c.jump_target-in-Unwind.ensures c.args.row.now.instructions.now l p.0 listed (ap (λ (z : ℤ). target l.offsets 0 (pos (c.args.end - 1) +ℤ z)) same ∙ p.1)))
+    subst (λ (z : Instr). Shows shelf m tables c.args.row.now l c.args.end z (fetched.unwind c.jump_target-target-in-Unwind.result c.in-Unwind.byte)) (sym c.in-Unwind.is)
+    (showing.shows_unwind shelf c.args.module_number c.args.row.now c.requires.row m there l listed c.args.at c.args.end tables of c.in-Unwind.offset c.in-Unwind.wide c.in-Unwind.byte c.jump_target-target-in-Unwind.result p.0 p.1
+    (c.jump_target-target-in-Unwind.ensures c.args.row.now.instructions.now l p.0 listed (ap (λ (z : ℤ). target l.offsets 0 (pos (c.args.end - 1) +ℤ z)) same ∙ p.1)))
 
 pub returns-in-Unary : goal.returns-in-Unary
 returns-in-Unary c tables m l of there listed st r =
