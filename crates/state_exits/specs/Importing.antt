@@ -15,7 +15,6 @@ use Rattle.vm_states.specs.frame_moves.Outcomes.{outcome_of}
 use Rattle.vm_states.specs.frame_values.Effects.{IsKnownStop}
 use Rattle.vm_states.specs.frame_exits.declared.names.ModuleName.{ModuleName}
 use Rattle.vm_states.specs.frame_exits.Ends.{with_modules}
-use Rattle.vm_states.specs.vm_fetching.declared.operations.NameOp.TheVariants as name_ops
 use Rattle.vm_states.specs.vm_fetching.declared.instruction.Fetched.{Fetched}
 use Rattle.vm_states.specs.vm_fetching.Instructions as fetched
 use Rattle.vm_states.specs.Means.{Program, Means}

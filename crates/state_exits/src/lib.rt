@@ -13,6 +13,5 @@ pub use law::registered_law;
 pub use raising::{raise_again_on, raise_on, stop_on};
 pub use returning::return_on;
 pub use vm_states::{
-    CallOp, End, Fetched, Instruction, LeaveOp, MakeOp, ModuleName, NameOp, NumberOp, PlainOp, Row,
-    Rows, Step,
+    CallOp, End, Fetched, Instruction, LeaveOp, MakeOp, ModuleName, Row, Rows, Step,
 };

@@ -11,46 +11,17 @@ ghost use Rattle.state_values.specs.Keeping.{ActsKeeping};
 ghost use Rattle.state_steps.specs.Comes.{ComesOnBehind};
 ghost use Rattle.state_values.specs.Operators.{visits_binary};
 
-use arena_heap::{Arena, Constants, StrNo, Value};
+use arena_heap::{Arena, Constants, Value};
 use prim_faults::Stop;
 use prim_modules::Modules;
-use state_exits::{End, ModuleName, NameOp, Row, Step, registered_law, stop_on};
+use state_exits::{End, ModuleName, Row, Step, registered_law, stop_on};
 use state_values::{
-    attribute_on, binary_op, jump_to, load_int, load_object, name_on, number_on, plain_on,
-    unary_op, unwind_jump,
+    attribute_on, binary_op, build_on, for_iter, get_iter_stack, handle_on, item_on, jump,
+    load_int, load_object, load_text, local_on, move_on, name_on, test_jump, unary_op, unwind_jump,
 };
 use vm_frames::Frames;
 
-/// A text, a name of the running call's module, or an attribute of a value. It makes no visits.
-#[tactic(none)]
-fn name_or_attribute<C: Constants>(
-    frames: &mut Frames,
-    arena: &mut Arena,
-    consts: &C,
-    op: NameOp,
-    name: StrNo,
-    end: u32,
-) -> Result<(), Stop>
-    requires runs { under C.Constants consts.now RunsOver arena.old frames.old (record { instruction = fetched_as.name op name; end = end }) }
-    ensures acts { under C.Constants consts.now ActsKeeping
-        (record { instruction = fetched_as.name op name; end = end }) 0 arena.old arena.new frames.old frames.new result }
-{
-    match op {
-        NameOp::LoadConstString => name_on(frames, arena, consts, op, name, end),
-        NameOp::LoadName => name_on(frames, arena, consts, op, name, end),
-        NameOp::LoadGlobal => name_on(frames, arena, consts, op, name, end),
-        NameOp::StoreName => name_on(frames, arena, consts, op, name, end),
-        NameOp::StoreGlobal => name_on(frames, arena, consts, op, name, end),
-        NameOp::DeleteName => name_on(frames, arena, consts, op, name, end),
-        NameOp::DeleteGlobal => name_on(frames, arena, consts, op, name, end),
-        NameOp::LoadAttr => attribute_on(frames, arena, consts, op, name, end),
-        NameOp::LoadMethod => attribute_on(frames, arena, consts, op, name, end),
-        NameOp::StoreAttr => attribute_on(frames, arena, consts, op, name, end),
-        NameOp::ImportFrom => attribute_on(frames, arena, consts, op, name, end),
-    }
-}
-
-/// An instruction that stays in the running call, by what it has. It makes no visits.
+/// An instruction that stays in the running call, by what it works on. It makes no visits.
 #[tactic(none)]
 fn act_on<C: Constants>(
     frames: &mut Frames,
@@ -66,13 +37,21 @@ fn act_on<C: Constants>(
         (record { instruction = fetched_as.stays step; end = end }) 0 arena.old arena.new frames.old frames.new result }
 {
     match step {
-        Step::Plain(op) => plain_on(frames, arena, consts, op, end),
-        Step::Number(op, n) => number_on(frames, arena, consts, items, op, n, end),
+        Step::Move(op) => move_on(frames, arena, consts, op, end),
         Step::Int(n) => load_int(frames, arena, consts, n, end),
-        Step::Unary(number) => unary_op(frames, arena, consts, number, end),
-        Step::Name(op, name) => name_or_attribute(frames, arena, consts, op, name, end),
+        Step::Text(text) => load_text(frames, arena, consts, text, end),
         Step::Object(v) => load_object(frames, arena, consts, v, end),
-        Step::Jump(op, target) => jump_to(frames, arena, consts, op, target, end),
+        Step::Local(op, n) => local_on(frames, arena, consts, op, n, end),
+        Step::Item(op) => item_on(frames, arena, consts, op, end),
+        Step::Build(op, n) => build_on(frames, arena, consts, items, op, n, end),
+        Step::Name(op, name) => name_on(frames, arena, consts, op, name, end),
+        Step::Attribute(op, name) => attribute_on(frames, arena, consts, op, name, end),
+        Step::Unary(number) => unary_op(frames, arena, consts, number, end),
+        Step::Jump(target) => jump(frames, arena, consts, target, end),
+        Step::Test(op, target) => test_jump(frames, arena, consts, op, target, end),
+        Step::Handle(op, target) => handle_on(frames, arena, consts, op, target, end),
+        Step::Iterate => get_iter_stack(frames, arena, consts, end),
+        Step::ForIter(target) => for_iter(frames, arena, consts, target, end),
         Step::Unwind { target, byte } => unwind_jump(frames, arena, consts, target, byte, end),
     }
 }

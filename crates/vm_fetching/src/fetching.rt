@@ -16,7 +16,7 @@ ghost use Rattle.vm_fetching.specs.Shows.{Shows};
 
 use crate::instruction::{Action, Fetched, Instruction, Step};
 use crate::looking::{object_of, text_of};
-use crate::operations::{CallOp, MakeOp, NumberOp, jump_op, named, plain};
+use crate::operations::{BuildOp, CallOp, LocalOp, MakeOp, jumping, named, plain};
 use bc_labels::jump_target;
 use bc_ops::{Instr, Op, decode_at};
 use bc_rows::{Library, Row};
@@ -44,16 +44,16 @@ fn numbered(library: &Library, module_number: u32, op: Op, n: u32) -> Instructio
     ensures { IsNumbered library.now module_number n op result }
 {
     match op {
-        Op::LoadFast => Instruction::Acts(Action::Stays(Step::Number(NumberOp::LoadFast, n))),
-        Op::LoadFastN => Instruction::Acts(Action::Stays(Step::Number(NumberOp::LoadFastN, n))),
-        Op::StoreFast => Instruction::Acts(Action::Stays(Step::Number(NumberOp::StoreFast, n))),
-        Op::StoreFastN => Instruction::Acts(Action::Stays(Step::Number(NumberOp::StoreFastN, n))),
-        Op::DeleteFast => Instruction::Acts(Action::Stays(Step::Number(NumberOp::DeleteFast, n))),
-        Op::BuildTuple => Instruction::Acts(Action::Stays(Step::Number(NumberOp::BuildTuple, n))),
-        Op::BuildList => Instruction::Acts(Action::Stays(Step::Number(NumberOp::BuildList, n))),
-        Op::BuildMap => Instruction::Acts(Action::Stays(Step::Number(NumberOp::BuildMap, n))),
-        Op::UnpackSequence => Instruction::Acts(Action::Stays(Step::Number(
-            NumberOp::UnpackSequence,
+        Op::LoadFast => Instruction::Acts(Action::Stays(Step::Local(LocalOp::LoadFast, n))),
+        Op::LoadFastN => Instruction::Acts(Action::Stays(Step::Local(LocalOp::LoadFastN, n))),
+        Op::StoreFast => Instruction::Acts(Action::Stays(Step::Local(LocalOp::StoreFast, n))),
+        Op::StoreFastN => Instruction::Acts(Action::Stays(Step::Local(LocalOp::StoreFastN, n))),
+        Op::DeleteFast => Instruction::Acts(Action::Stays(Step::Local(LocalOp::DeleteFast, n))),
+        Op::BuildTuple => Instruction::Acts(Action::Stays(Step::Build(BuildOp::BuildTuple, n))),
+        Op::BuildList => Instruction::Acts(Action::Stays(Step::Build(BuildOp::BuildList, n))),
+        Op::BuildMap => Instruction::Acts(Action::Stays(Step::Build(BuildOp::BuildMap, n))),
+        Op::UnpackSequence => Instruction::Acts(Action::Stays(Step::Build(
+            BuildOp::UnpackSequence,
             n,
         ))),
         Op::MakeFunction => Instruction::Acts(Action::Makes(MakeOp::MakeFunction, n)),
@@ -98,7 +98,7 @@ fn shown(
             wide: _,
         } => {
             let target = jump_target(end, offset);
-            Instruction::Acts(Action::Stays(Step::Jump(jump_op(op), target)))
+            Instruction::Acts(Action::Stays(jumping(op, target)))
         }
         Instr::Unwind {
             offset,

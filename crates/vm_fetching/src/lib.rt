@@ -13,4 +13,7 @@ pub use fetching::fetch;
 pub use instruction::{Action, Fetched, Instruction, Step};
 pub use law::step_law;
 pub use lines::line_of;
-pub use operations::{CallOp, JumpOp, LeaveOp, MakeOp, NameOp, NumberOp, PlainOp};
+pub use operations::{
+    AttributeOp, BuildOp, CallOp, HandlerOp, ItemOp, LeaveOp, LocalOp, MakeOp, MoveOp, NameOp,
+    TestOp,
+};

@@ -4,28 +4,31 @@ ghost use Rattle.std.specs.Prelude.{◌≡◌, Bool};
 ghost use Rattle.frame_moves.specs.bc_ops.declared.form.Form.TheVariants as forms;
 ghost use Rattle.frame_moves.specs.bc_ops.declared.instr.Instr.TheVariants as instrs;
 ghost use Rattle.frame_moves.specs.bc_ops.Table.{code_of, form_of};
-ghost use Rattle.vm_fetching.specs.Families.{IsNamed, IsWhole};
-ghost use Rattle.vm_fetching.specs.Operations as operations;
+ghost use Rattle.vm_fetching.specs.Families.{IsJumping, IsNamed, IsWhole};
 
 use crate::instruction::{Action, Step};
 use arena_heap::StrNo;
 use bc_ops::Op;
 
-/// An operation without an operand that stays in the running call.
+/// An operation that moves slots, or loads a constant that has no operand.
 #[derive(Clone, Copy, Debug, PartialEq, Eq)]
-pub enum PlainOp {
+pub enum MoveOp {
     LoadConstFalse,
     LoadConstNone,
     LoadConstTrue,
     LoadNull,
-    LoadSubscr,
-    StoreSubscr,
     DupTop,
     DupTopTwo,
     PopTop,
     RotTwo,
     RotThree,
-    GetIterStack,
+}
+
+/// An operation on an item, of what lies on top.
+#[derive(Clone, Copy, Debug, PartialEq, Eq)]
+pub enum ItemOp {
+    LoadSubscr,
+    StoreSubscr,
     StoreMap,
 }
 
@@ -37,14 +40,19 @@ pub enum LeaveOp {
     RaiseObj,
 }
 
-/// An operation with a number, of a local or a count, that stays in the running call.
+/// An operation on a local of the running call.
 #[derive(Clone, Copy, Debug, PartialEq, Eq)]
-pub enum NumberOp {
+pub enum LocalOp {
     LoadFast,
     LoadFastN,
     StoreFast,
     StoreFastN,
     DeleteFast,
+}
+
+/// An operation that makes a collection of what lies on top, or takes one apart.
+#[derive(Clone, Copy, Debug, PartialEq, Eq)]
+pub enum BuildOp {
     BuildTuple,
     BuildList,
     BuildMap,
@@ -65,34 +73,41 @@ pub enum CallOp {
     CallMethod,
 }
 
-/// An operation that names a text, and stays in the running call.
+/// An operation on a name of the running call's module.
 #[derive(Clone, Copy, Debug, PartialEq, Eq)]
 pub enum NameOp {
-    LoadConstString,
     LoadName,
     LoadGlobal,
     StoreName,
     StoreGlobal,
     DeleteName,
     DeleteGlobal,
+}
+
+/// An operation on an attribute of a value.
+#[derive(Clone, Copy, Debug, PartialEq, Eq)]
+pub enum AttributeOp {
     LoadAttr,
     LoadMethod,
     StoreAttr,
     ImportFrom,
 }
 
-/// An operation that jumps, or that has its handler somewhere.
+/// A jump that tests the value on top.
 #[derive(Clone, Copy, Debug, PartialEq, Eq)]
-pub enum JumpOp {
-    Jump,
+pub enum TestOp {
     PopJumpIfTrue,
     PopJumpIfFalse,
     JumpIfTrueOrPop,
     JumpIfFalseOrPop,
+}
+
+/// An operation that sets up a handler, or leaves one.
+#[derive(Clone, Copy, Debug, PartialEq, Eq)]
+pub enum HandlerOp {
     SetupExcept,
     SetupFinally,
     PopExceptJump,
-    ForIter,
 }
 
 /// The operation without an operand, by what carries it out.
@@ -102,19 +117,19 @@ pub(crate) fn plain(op: Op) -> Action
     ensures { IsWhole op result }
 {
     match op {
-        Op::LoadConstFalse => Action::Stays(Step::Plain(PlainOp::LoadConstFalse)),
-        Op::LoadConstNone => Action::Stays(Step::Plain(PlainOp::LoadConstNone)),
-        Op::LoadConstTrue => Action::Stays(Step::Plain(PlainOp::LoadConstTrue)),
-        Op::LoadNull => Action::Stays(Step::Plain(PlainOp::LoadNull)),
-        Op::LoadSubscr => Action::Stays(Step::Plain(PlainOp::LoadSubscr)),
-        Op::StoreSubscr => Action::Stays(Step::Plain(PlainOp::StoreSubscr)),
-        Op::DupTop => Action::Stays(Step::Plain(PlainOp::DupTop)),
-        Op::DupTopTwo => Action::Stays(Step::Plain(PlainOp::DupTopTwo)),
-        Op::PopTop => Action::Stays(Step::Plain(PlainOp::PopTop)),
-        Op::RotTwo => Action::Stays(Step::Plain(PlainOp::RotTwo)),
-        Op::RotThree => Action::Stays(Step::Plain(PlainOp::RotThree)),
-        Op::GetIterStack => Action::Stays(Step::Plain(PlainOp::GetIterStack)),
-        Op::StoreMap => Action::Stays(Step::Plain(PlainOp::StoreMap)),
+        Op::LoadConstFalse => Action::Stays(Step::Move(MoveOp::LoadConstFalse)),
+        Op::LoadConstNone => Action::Stays(Step::Move(MoveOp::LoadConstNone)),
+        Op::LoadConstTrue => Action::Stays(Step::Move(MoveOp::LoadConstTrue)),
+        Op::LoadNull => Action::Stays(Step::Move(MoveOp::LoadNull)),
+        Op::DupTop => Action::Stays(Step::Move(MoveOp::DupTop)),
+        Op::DupTopTwo => Action::Stays(Step::Move(MoveOp::DupTopTwo)),
+        Op::PopTop => Action::Stays(Step::Move(MoveOp::PopTop)),
+        Op::RotTwo => Action::Stays(Step::Move(MoveOp::RotTwo)),
+        Op::RotThree => Action::Stays(Step::Move(MoveOp::RotThree)),
+        Op::LoadSubscr => Action::Stays(Step::Item(ItemOp::LoadSubscr)),
+        Op::StoreSubscr => Action::Stays(Step::Item(ItemOp::StoreSubscr)),
+        Op::StoreMap => Action::Stays(Step::Item(ItemOp::StoreMap)),
+        Op::GetIterStack => Action::Stays(Step::Iterate),
         Op::EndFinally => Action::Finishes,
         Op::ReturnValue => Action::Leaves(LeaveOp::ReturnValue),
         Op::RaiseLast => Action::Leaves(LeaveOp::RaiseLast),
@@ -129,42 +144,40 @@ pub(crate) fn named(op: Op, text: u32) -> Action
     requires { form_of (code_of op) ≡ forms.Name op }
     ensures { IsNamed op text result }
 {
+    let name = StrNo::Pool(text);
     match op {
-        Op::LoadConstString => Action::Stays(Step::Name(
-            NameOp::LoadConstString,
-            StrNo::Pool(text),
-        )),
-        Op::LoadName => Action::Stays(Step::Name(NameOp::LoadName, StrNo::Pool(text))),
-        Op::LoadGlobal => Action::Stays(Step::Name(NameOp::LoadGlobal, StrNo::Pool(text))),
-        Op::StoreName => Action::Stays(Step::Name(NameOp::StoreName, StrNo::Pool(text))),
-        Op::StoreGlobal => Action::Stays(Step::Name(NameOp::StoreGlobal, StrNo::Pool(text))),
-        Op::DeleteName => Action::Stays(Step::Name(NameOp::DeleteName, StrNo::Pool(text))),
-        Op::DeleteGlobal => Action::Stays(Step::Name(NameOp::DeleteGlobal, StrNo::Pool(text))),
-        Op::LoadAttr => Action::Stays(Step::Name(NameOp::LoadAttr, StrNo::Pool(text))),
-        Op::LoadMethod => Action::Stays(Step::Name(NameOp::LoadMethod, StrNo::Pool(text))),
-        Op::StoreAttr => Action::Stays(Step::Name(NameOp::StoreAttr, StrNo::Pool(text))),
-        Op::ImportFrom => Action::Stays(Step::Name(NameOp::ImportFrom, StrNo::Pool(text))),
+        Op::LoadConstString => Action::Stays(Step::Text(name)),
+        Op::LoadName => Action::Stays(Step::Name(NameOp::LoadName, name)),
+        Op::LoadGlobal => Action::Stays(Step::Name(NameOp::LoadGlobal, name)),
+        Op::StoreName => Action::Stays(Step::Name(NameOp::StoreName, name)),
+        Op::StoreGlobal => Action::Stays(Step::Name(NameOp::StoreGlobal, name)),
+        Op::DeleteName => Action::Stays(Step::Name(NameOp::DeleteName, name)),
+        Op::DeleteGlobal => Action::Stays(Step::Name(NameOp::DeleteGlobal, name)),
+        Op::LoadAttr => Action::Stays(Step::Attribute(AttributeOp::LoadAttr, name)),
+        Op::LoadMethod => Action::Stays(Step::Attribute(AttributeOp::LoadMethod, name)),
+        Op::StoreAttr => Action::Stays(Step::Attribute(AttributeOp::StoreAttr, name)),
+        Op::ImportFrom => Action::Stays(Step::Attribute(AttributeOp::ImportFrom, name)),
         Op::ImportName => Action::Imports(text),
         _ => unreachable!(),
     }
 }
 
-/// The operation among those of its kind.
+/// The operation that has an offset, by what carries it out.
 #[inline(always)]
-pub(crate) fn jump_op(op: Op) -> JumpOp
+pub(crate) fn jumping(op: Op, target: u32) -> Step
     requires { (signed : Bool) × (form_of (code_of op) ≡ forms.Offset op signed) }
-    ensures { operations.jump_op result ≡ op }
+    ensures { IsJumping op target result }
 {
     match op {
-        Op::Jump => JumpOp::Jump,
-        Op::PopJumpIfTrue => JumpOp::PopJumpIfTrue,
-        Op::PopJumpIfFalse => JumpOp::PopJumpIfFalse,
-        Op::JumpIfTrueOrPop => JumpOp::JumpIfTrueOrPop,
-        Op::JumpIfFalseOrPop => JumpOp::JumpIfFalseOrPop,
-        Op::SetupExcept => JumpOp::SetupExcept,
-        Op::SetupFinally => JumpOp::SetupFinally,
-        Op::PopExceptJump => JumpOp::PopExceptJump,
-        Op::ForIter => JumpOp::ForIter,
+        Op::Jump => Step::Jump(target),
+        Op::PopJumpIfTrue => Step::Test(TestOp::PopJumpIfTrue, target),
+        Op::PopJumpIfFalse => Step::Test(TestOp::PopJumpIfFalse, target),
+        Op::JumpIfTrueOrPop => Step::Test(TestOp::JumpIfTrueOrPop, target),
+        Op::JumpIfFalseOrPop => Step::Test(TestOp::JumpIfFalseOrPop, target),
+        Op::SetupExcept => Step::Handle(HandlerOp::SetupExcept, target),
+        Op::SetupFinally => Step::Handle(HandlerOp::SetupFinally, target),
+        Op::PopExceptJump => Step::Handle(HandlerOp::PopExceptJump, target),
+        Op::ForIter => Step::ForIter(target),
         _ => unreachable!(),
     }
 }

@@ -4,14 +4,6 @@ use Rattle.vm_states.specs.vm_fetching.Instructions as fetched
 use Rattle.state_values.specs.Keeping.{ActsKeeping}
 use Rattle.state_values.proofs.operating.name_on.Goals as goal
 
-pub returns-in-LoadConstString : goal.returns-in-LoadConstString
-returns-in-LoadConstString g c =
-    let texts = g.C.Constants.text_of c.args.consts.now in
-    let tuples = g.C.Constants.items_of c.args.consts.now in
-    record {
-      acts = subst (λ (o : NameOp). ActsKeeping texts tuples (record { instruction = fetched.name o c.args.name; end = c.args.end }) 0 c.args.arena.now c.args.arena.now c.args.frames.now c.load_text.new.frames c.load_text.result) (sym c.in-LoadConstString.is) c.load_text.ensures.acts;
-    }
-
 pub returns-in-LoadName : goal.returns-in-LoadName
 returns-in-LoadName g c =
     let texts = g.C.Constants.text_of c.args.consts.now in

@@ -2,8 +2,6 @@ use Rattle.std.proofs.Common.{◌≡◌, ◌∙◌, Ok, sym, ap, subst}
 use Rattle.state_values.specs.vm_fetching.declared.instruction.Instruction.{Instruction}
 use Rattle.state_values.specs.vm_fetching.declared.instruction.Action.{Action}
 use Rattle.state_values.specs.vm_fetching.declared.instruction.Step.{Step}
-use Rattle.state_values.specs.vm_fetching.declared.operations.PlainOp.{PlainOp}
-use Rattle.state_values.specs.vm_fetching.declared.operations.PlainOp.TheVariants as plain_ops
 use Rattle.state_values.specs.vm_fetching.Instructions as fetched
 use Rattle.state_values.specs.Keeping.{ActsKeeping}
 use Rattle.vm_at_once.proofs.Forms.{runs_at}

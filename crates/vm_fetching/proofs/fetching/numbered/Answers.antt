@@ -1,38 +1,39 @@
 use Rattle.std.proofs.Common.{sym, subst}
-use Rattle.vm_fetching.specs.declared.operations.NumberOp.TheVariants as numbers
+use Rattle.vm_fetching.specs.declared.operations.LocalOp.TheVariants as local_ops
+use Rattle.vm_fetching.specs.declared.operations.BuildOp.TheVariants as build_ops
 use Rattle.vm_fetching.specs.declared.operations.MakeOp.TheVariants as make_ops
 use Rattle.vm_fetching.specs.declared.operations.CallOp.TheVariants as call_ops
 use Rattle.vm_fetching.specs.Instructions as fetched
-use Rattle.vm_fetching.specs.Numbered.{IsNumbered, number, make, call, object}
+use Rattle.vm_fetching.specs.Numbered.{IsNumbered, local, build, make, call, object}
 use Rattle.vm_fetching.proofs.Operating.{not_number}
 use Rattle.vm_fetching.proofs.fetching.numbered.Goals as goal
 
 pub returns-in-LoadFast : goal.returns-in-LoadFast
-returns-in-LoadFast c = subst (λ z. IsNumbered c.args.library.now c.args.module_number c.args.n z (fetched.number numbers.LoadFast c.args.n)) (sym c.in-LoadFast.is) (number numbers.LoadFast)
+returns-in-LoadFast c = subst (λ z. IsNumbered c.args.library.now c.args.module_number c.args.n z (fetched.local local_ops.LoadFast c.args.n)) (sym c.in-LoadFast.is) (local local_ops.LoadFast)
 
 pub returns-in-LoadFastN : goal.returns-in-LoadFastN
-returns-in-LoadFastN c = subst (λ z. IsNumbered c.args.library.now c.args.module_number c.args.n z (fetched.number numbers.LoadFastN c.args.n)) (sym c.in-LoadFastN.is) (number numbers.LoadFastN)
+returns-in-LoadFastN c = subst (λ z. IsNumbered c.args.library.now c.args.module_number c.args.n z (fetched.local local_ops.LoadFastN c.args.n)) (sym c.in-LoadFastN.is) (local local_ops.LoadFastN)
 
 pub returns-in-StoreFast : goal.returns-in-StoreFast
-returns-in-StoreFast c = subst (λ z. IsNumbered c.args.library.now c.args.module_number c.args.n z (fetched.number numbers.StoreFast c.args.n)) (sym c.in-StoreFast.is) (number numbers.StoreFast)
+returns-in-StoreFast c = subst (λ z. IsNumbered c.args.library.now c.args.module_number c.args.n z (fetched.local local_ops.StoreFast c.args.n)) (sym c.in-StoreFast.is) (local local_ops.StoreFast)
 
 pub returns-in-StoreFastN : goal.returns-in-StoreFastN
-returns-in-StoreFastN c = subst (λ z. IsNumbered c.args.library.now c.args.module_number c.args.n z (fetched.number numbers.StoreFastN c.args.n)) (sym c.in-StoreFastN.is) (number numbers.StoreFastN)
+returns-in-StoreFastN c = subst (λ z. IsNumbered c.args.library.now c.args.module_number c.args.n z (fetched.local local_ops.StoreFastN c.args.n)) (sym c.in-StoreFastN.is) (local local_ops.StoreFastN)
 
 pub returns-in-DeleteFast : goal.returns-in-DeleteFast
-returns-in-DeleteFast c = subst (λ z. IsNumbered c.args.library.now c.args.module_number c.args.n z (fetched.number numbers.DeleteFast c.args.n)) (sym c.in-DeleteFast.is) (number numbers.DeleteFast)
+returns-in-DeleteFast c = subst (λ z. IsNumbered c.args.library.now c.args.module_number c.args.n z (fetched.local local_ops.DeleteFast c.args.n)) (sym c.in-DeleteFast.is) (local local_ops.DeleteFast)
 
 pub returns-in-BuildTuple : goal.returns-in-BuildTuple
-returns-in-BuildTuple c = subst (λ z. IsNumbered c.args.library.now c.args.module_number c.args.n z (fetched.number numbers.BuildTuple c.args.n)) (sym c.in-BuildTuple.is) (number numbers.BuildTuple)
+returns-in-BuildTuple c = subst (λ z. IsNumbered c.args.library.now c.args.module_number c.args.n z (fetched.build build_ops.BuildTuple c.args.n)) (sym c.in-BuildTuple.is) (build build_ops.BuildTuple)
 
 pub returns-in-BuildList : goal.returns-in-BuildList
-returns-in-BuildList c = subst (λ z. IsNumbered c.args.library.now c.args.module_number c.args.n z (fetched.number numbers.BuildList c.args.n)) (sym c.in-BuildList.is) (number numbers.BuildList)
+returns-in-BuildList c = subst (λ z. IsNumbered c.args.library.now c.args.module_number c.args.n z (fetched.build build_ops.BuildList c.args.n)) (sym c.in-BuildList.is) (build build_ops.BuildList)
 
 pub returns-in-BuildMap : goal.returns-in-BuildMap
-returns-in-BuildMap c = subst (λ z. IsNumbered c.args.library.now c.args.module_number c.args.n z (fetched.number numbers.BuildMap c.args.n)) (sym c.in-BuildMap.is) (number numbers.BuildMap)
+returns-in-BuildMap c = subst (λ z. IsNumbered c.args.library.now c.args.module_number c.args.n z (fetched.build build_ops.BuildMap c.args.n)) (sym c.in-BuildMap.is) (build build_ops.BuildMap)
 
 pub returns-in-UnpackSequence : goal.returns-in-UnpackSequence
-returns-in-UnpackSequence c = subst (λ z. IsNumbered c.args.library.now c.args.module_number c.args.n z (fetched.number numbers.UnpackSequence c.args.n)) (sym c.in-UnpackSequence.is) (number numbers.UnpackSequence)
+returns-in-UnpackSequence c = subst (λ z. IsNumbered c.args.library.now c.args.module_number c.args.n z (fetched.build build_ops.UnpackSequence c.args.n)) (sym c.in-UnpackSequence.is) (build build_ops.UnpackSequence)
 
 pub returns-in-MakeFunction : goal.returns-in-MakeFunction
 returns-in-MakeFunction c = subst (λ z. IsNumbered c.args.library.now c.args.module_number c.args.n z (fetched.make make_ops.MakeFunction c.args.n)) (sym c.in-MakeFunction.is) (make make_ops.MakeFunction)

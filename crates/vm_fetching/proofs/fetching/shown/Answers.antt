@@ -31,8 +31,8 @@ numbered-requires-clause-there c e =
     let q = c.requires.reads in
     showing.object_entry c.args.library.now c.args.module_number c.args.row.now v v.m v.there q.0 q.1 c.args.at c.args.end c.in-Num.op c.in-Num.n (subst (λ z. Reads q.0 c.args.at z c.args.end) c.in-Num.is q.3) e
 
-pub jump_op-requires : goal.jump_op-requires
-jump_op-requires c = showing.jump_form c.in-Jump.op c.in-Jump.wide c.in-Jump.offset (form_of (code_of c.in-Jump.op)) refl (subst IsEncodable c.in-Jump.is c.requires.reads.3.encodable)
+pub jumping-requires : goal.jumping-requires
+jumping-requires c = showing.jump_form c.in-Jump.op c.in-Jump.wide c.in-Jump.offset (form_of (code_of c.in-Jump.op)) refl (subst IsEncodable c.in-Jump.is c.requires.reads.3.encodable)
 
 pub jump_target-target-requires : goal.jump_target-target-requires
 jump_target-target-requires c =
@@ -88,8 +88,8 @@ returns-in-Jump c tables m l of there listed st r =
     let fits : SFits w32 c.in-Jump.offset = search rules in
     let same = to_z-of_z w32 c.in-Jump.offset fits in
     let p = showing.jump_place shelf c.args.module_number c.args.row.now c.requires.row m there l listed c.args.at c.args.end c.in-Jump.op c.in-Jump.offset c.in-Jump.wide reads in
-    subst (λ (z : Instr). Shows shelf m tables c.args.row.now l c.args.end z (fetched.jump c.jump_op.result c.jump_target-target.result)) (sym c.in-Jump.is)
-    (showing.shows_jump shelf c.args.module_number c.args.row.now c.requires.row m there l listed c.args.at c.args.end tables of c.in-Jump.op c.jump_op.result c.in-Jump.offset c.in-Jump.wide c.jump_target-target.result p.0 c.jump_op.ensures p.1
+    subst (λ (z : Instr). Shows shelf m tables c.args.row.now l c.args.end z (fetched.stays c.jumping.result)) (sym c.in-Jump.is)
+    (showing.shows_jump shelf c.args.module_number c.args.row.now c.requires.row m there l listed c.args.at c.args.end tables of c.in-Jump.op c.jumping.result c.in-Jump.offset c.in-Jump.wide c.jump_target-target.result p.0 c.jumping.ensures p.1
     (c.jump_target-target.ensures c.args.row.now.instructions.now l p.0 listed (ap (λ (z : ℤ). target l.offsets 0 (pos c.args.end +ℤ z)) same ∙ p.1)))
 
 pub returns-in-Unwind : goal.returns-in-Unwind
