@@ -6,7 +6,6 @@ ghost use Rattle.mpy_base.specs.declared.refused.Refused.TheVariants as refused;
 ghost use Rattle.mpy_io.specs.Count.{Counts};
 ghost use Rattle.bc_library.specs.Shelf.{Shelf};
 ghost use Rattle.vm_machine.specs.vm_starting.Kept.{AreFetched};
-ghost use Rattle.vm_machine.specs.vm_starting.Programs.{IsRunnable};
 ghost use Rattle.board_tasks.specs.declared.turning.TaskRun.{TaskRun};
 ghost use Rattle.board_tasks.specs.Opened.{AreOpened, first_missing};
 ghost use Rattle.board_tasks.specs.Ends.{HasEnd, IsRoomOf, is_write_fault};
@@ -15,7 +14,7 @@ ghost use Rattle.board_tasks.specs.Turns.{AreRuns, IsCountable, TurnsOne};
 use crate::ending::{TaskEnd, TurnEnd};
 use crate::opening::{BoardFault, first_missing, open_tasks};
 use crate::turning::TaskRun;
-use bc_library::Library;
+use bc_library::{Library, modules_law};
 use bc_rows::Rows;
 use board_plan::Task;
 use mpy_base::limits::MAX_TASKS;
@@ -50,8 +49,7 @@ impl Board {
         rows: &Rows<'_>,
         tasks: &[Task],
     ) -> Result<Board, Refused<BoardFault>>
-        requires runnable { IsRunnable library.now }
-        requires rows { rows.now ≡ library.now }
+        requires { rows.now ≡ library.now }
         ensures opened { IfOk result (AreOpened library.now tasks.now) }
         ensures few { OnOk result (length tasks.now ≤ MAX_TASKS) }
         ensures too_many { result ≡ Err (refused.Fault BoardFault.TooMany) → MAX_TASKS < length tasks.now }
@@ -66,6 +64,7 @@ impl Board {
             let name = Text::new(alloc, task.module.bytes())?;
             return Err(Refused::Fault(BoardFault::NoModule(name)));
         }
+        modules_law(library);
         let runs = open_tasks(alloc, library, rows, tasks)?;
         Ok(Board { alloc, runs })
     }
