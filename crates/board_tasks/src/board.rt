@@ -14,7 +14,7 @@ ghost use Rattle.board_tasks.specs.Turns.{AreRuns, IsCountable, TurnsOne};
 use crate::ending::{TaskEnd, TurnEnd};
 use crate::opening::{BoardFault, first_missing, open_tasks};
 use crate::turning::TaskRun;
-use bc_library::{Library, modules_law};
+use bc_library::Library;
 use bc_rows::Rows;
 use board_plan::Task;
 use mpy_base::limits::MAX_TASKS;
@@ -64,7 +64,6 @@ impl Board {
             let name = Text::new(alloc, task.module.bytes())?;
             return Err(Refused::Fault(BoardFault::NoModule(name)));
         }
-        modules_law(library);
         let runs = open_tasks(alloc, library, rows, tasks)?;
         Ok(Board { alloc, runs })
     }
