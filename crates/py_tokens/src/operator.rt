@@ -58,57 +58,6 @@ pub enum Operator {
     Refused,
 }
 
-impl Op {
-    /// How the operator is written.
-    pub fn spelling(self) -> &'static [u8]
-        ensures bytes { result.now ≡ spelling self }
-        ensures short { length result.now ≤ 3 }
-    {
-        match self {
-            Op::OpenParen => b"(",
-            Op::CloseParen => b")",
-            Op::OpenBracket => b"[",
-            Op::CloseBracket => b"]",
-            Op::OpenBrace => b"{",
-            Op::CloseBrace => b"}",
-            Op::Comma => b",",
-            Op::Colon => b":",
-            Op::Semicolon => b";",
-            Op::Dot => b".",
-            Op::Assign => b"=",
-            Op::Equal => b"==",
-            Op::NotEqual => b"!=",
-            Op::Less => b"<",
-            Op::Greater => b">",
-            Op::LessEqual => b"<=",
-            Op::GreaterEqual => b">=",
-            Op::Plus => b"+",
-            Op::Minus => b"-",
-            Op::Star => b"*",
-            Op::DoubleSlash => b"//",
-            Op::Percent => b"%",
-            Op::DoubleStar => b"**",
-            Op::Ampersand => b"&",
-            Op::Bar => b"|",
-            Op::Caret => b"^",
-            Op::Tilde => b"~",
-            Op::ShiftLeft => b"<<",
-            Op::ShiftRight => b">>",
-            Op::PlusAssign => b"+=",
-            Op::MinusAssign => b"-=",
-            Op::StarAssign => b"*=",
-            Op::DoubleSlashAssign => b"//=",
-            Op::PercentAssign => b"%=",
-            Op::DoubleStarAssign => b"**=",
-            Op::AmpersandAssign => b"&=",
-            Op::BarAssign => b"|=",
-            Op::CaretAssign => b"^=",
-            Op::ShiftLeftAssign => b"<<=",
-            Op::ShiftRightAssign => b">>=",
-        }
-    }
-}
-
 /// Each operator in the slot that its text gives. The other slots have the first operator.
 static OPS: [Op; 71] = [
     Op::ShiftLeftAssign,
@@ -183,6 +132,56 @@ static OPS: [Op; 71] = [
     Op::OpenParen,
     Op::LessEqual,
 ];
+
+impl Op {
+    /// How the operator is written.
+    pub fn spelling(self) -> &'static [u8]
+        ensures { result.now ≡ spelling self }
+    {
+        match self {
+            Op::OpenParen => b"(",
+            Op::CloseParen => b")",
+            Op::OpenBracket => b"[",
+            Op::CloseBracket => b"]",
+            Op::OpenBrace => b"{",
+            Op::CloseBrace => b"}",
+            Op::Comma => b",",
+            Op::Colon => b":",
+            Op::Semicolon => b";",
+            Op::Dot => b".",
+            Op::Assign => b"=",
+            Op::Equal => b"==",
+            Op::NotEqual => b"!=",
+            Op::Less => b"<",
+            Op::Greater => b">",
+            Op::LessEqual => b"<=",
+            Op::GreaterEqual => b">=",
+            Op::Plus => b"+",
+            Op::Minus => b"-",
+            Op::Star => b"*",
+            Op::DoubleSlash => b"//",
+            Op::Percent => b"%",
+            Op::DoubleStar => b"**",
+            Op::Ampersand => b"&",
+            Op::Bar => b"|",
+            Op::Caret => b"^",
+            Op::Tilde => b"~",
+            Op::ShiftLeft => b"<<",
+            Op::ShiftRight => b">>",
+            Op::PlusAssign => b"+=",
+            Op::MinusAssign => b"-=",
+            Op::StarAssign => b"*=",
+            Op::DoubleSlashAssign => b"//=",
+            Op::PercentAssign => b"%=",
+            Op::DoubleStarAssign => b"**=",
+            Op::AmpersandAssign => b"&=",
+            Op::BarAssign => b"|=",
+            Op::CaretAssign => b"^=",
+            Op::ShiftLeftAssign => b"<<=",
+            Op::ShiftRightAssign => b">>=",
+        }
+    }
+}
 
 fn op_of(text: &[u8]) -> Option<Op>
     ensures { (op : Op) → (result ≡ Some op) ↔ (text.now ≡ spelling op) }
