@@ -5,14 +5,9 @@
 //! with a number in place of its `#`, one more each time, from the number given; `/` has a line so often, each time behind a blank
 //! more, and `\` behind a blank less, down to none; what stands from `[` to `]` stands so often. Then comes `=` with the length of
 //! the file and its checksum (Adler-32), or `!` with the number of the fault and its line.
-#![tactic(auto)]
-
-mod row;
-mod source;
 
 use crate::row::Row;
 use std::alloc::{AllocError, Global};
-use std::process::ExitCode;
 use std::{fs, io};
 
 /// How many rows were tried, and how many of them came to something else, with what these are about.
@@ -38,14 +33,13 @@ fn tried(alloc: Global, text: &str) -> Result<Count, AllocError> {
     Ok(Count { rows, wrong })
 }
 
-/// Tries the rows of the file `limits`, and tells which come to something else.
-fn main(rt: HostRuntime) -> io::Result<ExitCode> {
-    let text = fs::read_to_string(&rt, "limits")?;
+/// Tries the rows of the file `limits`, and prints which come to something else, and how many there are.
+pub(crate) fn print_limits(rt: &HostRuntime) -> io::Result<()> {
+    let text = fs::read_to_string(rt, "limits")?;
     let count = tried(rt.alloc(), &text)?;
     let rows = count.rows;
     for about in count.wrong.iter() {
         println!(rt; "{about}")?;
     }
-    println!(rt; "{rows} rows")?;
-    Ok(ExitCode::from(if count.wrong.is_empty() { 0 } else { 1 }))
+    println!(rt; "{rows} rows")
 }
