@@ -3,12 +3,11 @@
 ghost use Rattle.vm_states.specs.vm_fetching.Instructions as fetched;
 ghost use Rattle.vm_states.specs.prim_names.prim_faults.Sights.{under};
 ghost use Rattle.vm_states.specs.vm_fetching.declared.operations.LocalOp.TheVariants as local_ops;
-ghost use Rattle.vm_states.specs.vm_fetching.declared.operations.HandlerOp.TheVariants as handler_ops;
 ghost use Rattle.state_values.specs.Moving.{fetched_move};
 ghost use Rattle.vm_states.specs.Acting.{RunsOver};
 ghost use Rattle.state_values.specs.Keeping.{ActsKeeping};
 
-use crate::jumping::{begin_except, begin_finally, end_except, jump_on, jump_out};
+use crate::jumping::{jump_on, jump_out};
 use crate::law::acting_law;
 use crate::loading::{load_constant, load_small, load_str};
 use crate::slot_moves::move_slots;
@@ -146,72 +145,6 @@ pub fn jump<C: Constants>(
 {
     acting_law();
     jump_on(frames, target, end);
-    Ok(())
-}
-
-/// SETUP_EXCEPT.
-pub(crate) fn setup_except<C: Constants>(
-    frames: &mut Frames,
-    _arena: &Arena,
-    _consts: &C,
-    handler: u32,
-    end: u32,
-) -> Result<(), Stop>
-    requires runs { under C.Constants _consts.now RunsOver _arena.now frames.old (record {
-      instruction = fetched.handle handler_ops.SetupExcept handler;
-      end = end;
-    }) }
-    ensures acts { under C.Constants _consts.now ActsKeeping (record {
-      instruction = fetched.handle handler_ops.SetupExcept handler;
-      end = end;
-    }) 0 _arena.now _arena.now frames.old frames.new result }
-{
-    acting_law();
-    begin_except(frames, handler, end);
-    Ok(())
-}
-
-/// SETUP_FINALLY.
-pub(crate) fn setup_finally<C: Constants>(
-    frames: &mut Frames,
-    _arena: &Arena,
-    _consts: &C,
-    handler: u32,
-    end: u32,
-) -> Result<(), Stop>
-    requires runs { under C.Constants _consts.now RunsOver _arena.now frames.old (record {
-      instruction = fetched.handle handler_ops.SetupFinally handler;
-      end = end;
-    }) }
-    ensures acts { under C.Constants _consts.now ActsKeeping (record {
-      instruction = fetched.handle handler_ops.SetupFinally handler;
-      end = end;
-    }) 0 _arena.now _arena.now frames.old frames.new result }
-{
-    acting_law();
-    begin_finally(frames, handler, end);
-    Ok(())
-}
-
-/// POP_EXCEPT_JUMP.
-pub(crate) fn pop_except_jump<C: Constants>(
-    frames: &mut Frames,
-    _arena: &Arena,
-    _consts: &C,
-    target: u32,
-    end: u32,
-) -> Result<(), Stop>
-    requires runs { under C.Constants _consts.now RunsOver _arena.now frames.old (record {
-      instruction = fetched.handle handler_ops.PopExceptJump target;
-      end = end;
-    }) }
-    ensures acts { under C.Constants _consts.now ActsKeeping (record {
-      instruction = fetched.handle handler_ops.PopExceptJump target;
-      end = end;
-    }) 0 _arena.now _arena.now frames.old frames.new result }
-{
-    acting_law();
-    end_except(frames, target, end);
     Ok(())
 }
 

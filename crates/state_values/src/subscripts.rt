@@ -14,22 +14,7 @@ use crate::law::acting_law;
 use arena_heap::{Arena, Constants};
 use prim_faults::Stop;
 use vm_frames::{Frames, Slot};
-use vm_states::tops_law;
-
-/// LOAD_SUBSCR.
-pub(crate) fn load_subscr<C: Constants>(
-    frames: &mut Frames,
-    arena: &mut Arena,
-    consts: &C,
-    end: u32,
-) -> Result<(), Stop>
-    requires runs { under C.Constants consts.now RunsOver arena.old frames.old (fetched_item item_ops.LoadSubscr end) }
-    ensures acts { under C.Constants consts.now ActsKeeping (fetched_item item_ops.LoadSubscr end) 0 arena.old arena.new frames.old frames.new result }
-{
-    acting_law();
-    tops_law();
-    frame_values::load_subscr(frames, arena, consts, end)
-}
+use vm_states::{ItemOp, tops_law};
 
 /// Is the slot empty?
 fn is_null(slot: Slot) -> bool
@@ -88,7 +73,7 @@ fn delete_subscr<C: Constants>(
 }
 
 /// STORE_SUBSCR: an item is set, or deleted where no value lies below the object.
-pub(crate) fn store_subscr<C: Constants>(
+fn store_subscr<C: Constants>(
     frames: &mut Frames,
     arena: &mut Arena,
     consts: &C,
@@ -105,17 +90,22 @@ pub(crate) fn store_subscr<C: Constants>(
     }
 }
 
-/// STORE_MAP. The dict that is made stays.
-pub(crate) fn store_map<C: Constants>(
+/// An item that is loaded, set or deleted, or put into a dict. It makes no visits.
+pub fn item_on<C: Constants>(
     frames: &mut Frames,
     arena: &mut Arena,
     consts: &C,
+    op: ItemOp,
     end: u32,
 ) -> Result<(), Stop>
-    requires runs { under C.Constants consts.now RunsOver arena.old frames.old (fetched_item item_ops.StoreMap end) }
-    ensures acts { under C.Constants consts.now ActsKeeping (fetched_item item_ops.StoreMap end) 0 arena.old arena.new frames.old frames.new result }
+    requires runs { under C.Constants consts.now RunsOver arena.old frames.old (fetched_item op end) }
+    ensures acts { under C.Constants consts.now ActsKeeping (fetched_item op end) 0 arena.old arena.new frames.old frames.new result }
 {
     acting_law();
     tops_law();
-    frame_values::store_map(frames, arena, consts, end)
+    match op {
+        ItemOp::LoadSubscr => frame_values::load_subscr(frames, arena, consts, end),
+        ItemOp::StoreSubscr => store_subscr(frames, arena, consts, end),
+        ItemOp::StoreMap => frame_values::store_map(frames, arena, consts, end),
+    }
 }

@@ -84,9 +84,37 @@ pub fn act_at_once<C: Constants>(
 {
     let end = fetched.end;
     match fetched.instruction {
-        Instruction::Acts(Action::Stays(step)) => step_at_once(frames, arena, consts, step, end),
+        Instruction::Acts(action) => match action {
+            Action::Stays(step) => step_at_once(frames, arena, consts, step, end),
+            _ => None,
+        },
         Instruction::Binary(number) => binary_at_once(frames, arena, consts, number, end),
-        _ => None,
+        Instruction::Calls(_op, _number) => None,
+    }
+}
+
+/// An instruction that stays in the running call: it is carried out if it sets an item of a list at a small integer that counts from
+/// its front. Whether it was done.
+#[inline(always)]
+fn store_step<C: Constants>(
+    frames: &mut Frames,
+    arena: &mut Arena,
+    consts: &C,
+    step: Step,
+    end: u32,
+) -> bool
+    requires runs { under C.Constants consts.now RunsOver arena.old frames.old (record { instruction = fetched.stays step; end = end }) }
+    ensures done { result ≡ true
+        → under C.Constants consts.now ActsKeeping (record { instruction = fetched.stays step; end = end }) 0 arena.old arena.new
+        frames.old frames.new (Ok tt) }
+    ensures left { result ≡ false → (frames.new ≡ frames.old) × (arena.new ≡ arena.old) }
+{
+    match step {
+        Step::Item(op) => match op {
+            ItemOp::StoreSubscr => store_item(frames, arena, consts, end),
+            _ => false,
+        },
+        _ => false,
     }
 }
 
@@ -104,9 +132,10 @@ pub fn store_at_once<C: Constants>(
     ensures left { result ≡ false → (frames.new ≡ frames.old) × (arena.new ≡ arena.old) }
 {
     match fetched.instruction {
-        Instruction::Acts(Action::Stays(Step::Item(ItemOp::StoreSubscr))) => {
-            store_item(frames, arena, consts, fetched.end)
-        }
+        Instruction::Acts(action) => match action {
+            Action::Stays(step) => store_step(frames, arena, consts, step, fetched.end),
+            _ => false,
+        },
         _ => false,
     }
 }

@@ -62,7 +62,7 @@ module _ (laws : Laws) (p : Program) (means : Means p) (row : Row) (op : CallOp)
   went_kept end (steps {end = e} paid w v is) none =
       laws.step p before behind earlier later paid 0 w v old new means holds objects
       (is ∙ ap (λ (o : Option End). state_of p.tables o new.calls (world_of p.tables (with_modules p.tables v later) behind)) none)
-  went_kept end (gives v moved) none = laws.give p old new row op number next size v before.objects behind.objects means calls ready size_is holds objects moved
+  went_kept end (gives v moved) none = laws.give p old new row op number next size v before.objects behind.objects means ready size_is holds objects moved
   went_kept end (raises {end = e} stop between w v first second is) none =
       laws.raise p ready.place between behind earlier later 0 w v old new stop means (kept_later p before.objects between.objects first old holds) second
       (is ∙ ap (λ (o : Option End). state_of p.tables o new.calls (world_of p.tables (with_modules p.tables v later) behind)) none)

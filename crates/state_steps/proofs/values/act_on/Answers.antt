@@ -116,7 +116,7 @@ handle_on-requires g c = record { runs = step_runs (g.C.Constants.text_of c.args
 
 pub returns-in-Handle : goal.returns-in-Handle
 returns-in-Handle g c =
-    record { acts = step_acts (g.C.Constants.text_of c.args.consts.now) (g.C.Constants.items_of c.args.consts.now) c.args.step (steps.Handle c.in-Handle.op c.in-Handle.target) c.args.end c.in-Handle.is c.args.arena.now c.handle_on.new.arena c.args.frames.now c.handle_on.new.frames c.handle_on.result c.handle_on.ensures.acts }
+    record { acts = step_acts (g.C.Constants.text_of c.args.consts.now) (g.C.Constants.items_of c.args.consts.now) c.args.step (steps.Handle c.in-Handle.op c.in-Handle.target) c.args.end c.in-Handle.is c.args.arena.now c.args.arena.now c.args.frames.now c.handle_on.new.frames c.handle_on.result c.handle_on.ensures.acts }
 
 pub get_iter_stack-requires : goal.get_iter_stack-requires
 get_iter_stack-requires g c = record { runs = step_runs (g.C.Constants.text_of c.args.consts.now) (g.C.Constants.items_of c.args.consts.now) c.args.step steps.Iterate c.args.end c.in-Iterate.is c.args.arena.now c.args.frames.now c.requires.runs }

@@ -2,7 +2,7 @@ use Rattle.std.proofs.Common.{subst, sym}
 use Rattle.vm_states.specs.vm_fetching.declared.operations.BuildOp.{BuildOp}
 use Rattle.vm_states.specs.vm_fetching.Instructions as fetched
 use Rattle.state_values.specs.Keeping.{ActsKeeping}
-use Rattle.state_values.proofs.operating.build_on.Goals as goal
+use Rattle.state_values.proofs.displays.build_on.Goals as goal
 
 pub returns-in-BuildTuple : goal.returns-in-BuildTuple
 returns-in-BuildTuple g c =
