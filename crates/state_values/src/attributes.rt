@@ -1,8 +1,8 @@
 //! Operations on attributes, as they were fetched for calls of a program.
 
-ghost use Rattle.vm_states.specs.vm_fetching.declared.instruction.Instruction.TheVariants as fetched;
+ghost use Rattle.vm_states.specs.vm_fetching.Instructions as fetched;
 ghost use Rattle.vm_states.specs.prim_names.prim_faults.Sights.{under};
-ghost use Rattle.vm_states.specs.vm_fetching.declared.operations.NameOp.TheVariants as name_ops;
+ghost use Rattle.vm_states.specs.vm_fetching.declared.operations.AttributeOp.TheVariants as attribute_ops;
 ghost use Rattle.vm_states.specs.Acting.{RunsOver};
 ghost use Rattle.state_values.specs.Keeping.{ActsKeeping};
 
@@ -20,9 +20,9 @@ pub(crate) fn load_attr<C: Constants>(
     name: StrNo,
     end: u32,
 ) -> Result<(), Stop>
-    requires runs { under C.Constants consts.now RunsOver arena.old frames.old (record { instruction = fetched.Name name_ops.LoadAttr name; end = end }) }
+    requires runs { under C.Constants consts.now RunsOver arena.old frames.old (record { instruction = fetched.attribute attribute_ops.LoadAttr name; end = end }) }
     ensures acts { under C.Constants consts.now ActsKeeping (record {
-      instruction = fetched.Name name_ops.LoadAttr name;
+      instruction = fetched.attribute attribute_ops.LoadAttr name;
       end = end;
     }) 0 arena.old arena.new frames.old frames.new result }
 {
@@ -39,9 +39,9 @@ pub(crate) fn load_method<C: Constants>(
     name: StrNo,
     end: u32,
 ) -> Result<(), Stop>
-    requires runs { under C.Constants consts.now RunsOver arena.now frames.old (record { instruction = fetched.Name name_ops.LoadMethod name; end = end }) }
+    requires runs { under C.Constants consts.now RunsOver arena.now frames.old (record { instruction = fetched.attribute attribute_ops.LoadMethod name; end = end }) }
     ensures acts { under C.Constants consts.now ActsKeeping (record {
-      instruction = fetched.Name name_ops.LoadMethod name;
+      instruction = fetched.attribute attribute_ops.LoadMethod name;
       end = end;
     }) 0 arena.now arena.now frames.old frames.new result }
 {
@@ -58,9 +58,9 @@ pub(crate) fn store_attr<C: Constants>(
     name: StrNo,
     end: u32,
 ) -> Result<(), Stop>
-    requires runs { under C.Constants consts.now RunsOver arena.old frames.old (record { instruction = fetched.Name name_ops.StoreAttr name; end = end }) }
+    requires runs { under C.Constants consts.now RunsOver arena.old frames.old (record { instruction = fetched.attribute attribute_ops.StoreAttr name; end = end }) }
     ensures acts { under C.Constants consts.now ActsKeeping (record {
-      instruction = fetched.Name name_ops.StoreAttr name;
+      instruction = fetched.attribute attribute_ops.StoreAttr name;
       end = end;
     }) 0 arena.old arena.new frames.old frames.new result }
 {
@@ -77,9 +77,9 @@ pub(crate) fn import_from<C: Constants>(
     name: StrNo,
     end: u32,
 ) -> Result<(), Stop>
-    requires runs { under C.Constants consts.now RunsOver arena.old frames.old (record { instruction = fetched.Name name_ops.ImportFrom name; end = end }) }
+    requires runs { under C.Constants consts.now RunsOver arena.old frames.old (record { instruction = fetched.attribute attribute_ops.ImportFrom name; end = end }) }
     ensures acts { under C.Constants consts.now ActsKeeping (record {
-      instruction = fetched.Name name_ops.ImportFrom name;
+      instruction = fetched.attribute attribute_ops.ImportFrom name;
       end = end;
     }) 0 arena.old arena.new frames.old frames.new result }
 {

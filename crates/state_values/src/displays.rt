@@ -2,8 +2,8 @@
 
 ghost use Rattle.std.specs.Prelude.{◌≡◌, length};
 ghost use Rattle.vm_states.specs.prim_names.prim_faults.Sights.{under};
-ghost use Rattle.vm_states.specs.vm_fetching.declared.instruction.Instruction.TheVariants as fetched;
-ghost use Rattle.vm_states.specs.vm_fetching.declared.operations.NumberOp.TheVariants as number_ops;
+ghost use Rattle.vm_states.specs.vm_fetching.Instructions as fetched;
+ghost use Rattle.vm_states.specs.vm_fetching.declared.operations.BuildOp.TheVariants as build_ops;
 ghost use Rattle.vm_states.specs.Acting.{RunsOver};
 ghost use Rattle.state_values.specs.Keeping.{ActsKeeping};
 
@@ -23,9 +23,9 @@ pub(crate) fn build_tuple<C: Constants>(
     end: u32,
 ) -> Result<(), Stop>
     requires places { length items.old ≡ n }
-    requires runs { under C.Constants consts.now RunsOver arena.old frames.old (record { instruction = fetched.Number number_ops.BuildTuple n; end = end }) }
+    requires runs { under C.Constants consts.now RunsOver arena.old frames.old (record { instruction = fetched.build build_ops.BuildTuple n; end = end }) }
     ensures acts { under C.Constants consts.now ActsKeeping (record {
-      instruction = fetched.Number number_ops.BuildTuple n;
+      instruction = fetched.build build_ops.BuildTuple n;
       end = end;
     }) 0 arena.old arena.new frames.old frames.new result }
 {
@@ -45,9 +45,9 @@ pub(crate) fn build_list<C: Constants>(
     end: u32,
 ) -> Result<(), Stop>
     requires places { length items.old ≡ n }
-    requires runs { under C.Constants consts.now RunsOver arena.old frames.old (record { instruction = fetched.Number number_ops.BuildList n; end = end }) }
+    requires runs { under C.Constants consts.now RunsOver arena.old frames.old (record { instruction = fetched.build build_ops.BuildList n; end = end }) }
     ensures acts { under C.Constants consts.now ActsKeeping (record {
-      instruction = fetched.Number number_ops.BuildList n;
+      instruction = fetched.build build_ops.BuildList n;
       end = end;
     }) 0 arena.old arena.new frames.old frames.new result }
 {
@@ -65,9 +65,9 @@ pub(crate) fn build_map<C: Constants>(
     pairs: u32,
     end: u32,
 ) -> Result<(), Stop>
-    requires runs { under C.Constants consts.now RunsOver arena.old frames.old (record { instruction = fetched.Number number_ops.BuildMap pairs; end = end }) }
+    requires runs { under C.Constants consts.now RunsOver arena.old frames.old (record { instruction = fetched.build build_ops.BuildMap pairs; end = end }) }
     ensures acts { under C.Constants consts.now ActsKeeping (record {
-      instruction = fetched.Number number_ops.BuildMap pairs;
+      instruction = fetched.build build_ops.BuildMap pairs;
       end = end;
     }) 0 arena.old arena.new frames.old frames.new result }
 {
@@ -86,11 +86,11 @@ pub(crate) fn unpack_sequence<C: Constants>(
 ) -> Result<(), Stop>
     requires places { length items.old ≡ n }
     requires runs { under C.Constants consts.now RunsOver arena.old frames.old (record {
-      instruction = fetched.Number number_ops.UnpackSequence n;
+      instruction = fetched.build build_ops.UnpackSequence n;
       end = end;
     }) }
     ensures acts { under C.Constants consts.now ActsKeeping (record {
-      instruction = fetched.Number number_ops.UnpackSequence n;
+      instruction = fetched.build build_ops.UnpackSequence n;
       end = end;
     }) 0 arena.old arena.new frames.old frames.new result }
 {

@@ -1,8 +1,8 @@
 //! Operations on locals, as they were fetched for calls of a program.
 
-ghost use Rattle.vm_states.specs.vm_fetching.declared.instruction.Instruction.TheVariants as fetched;
+ghost use Rattle.vm_states.specs.vm_fetching.Instructions as fetched;
 ghost use Rattle.vm_states.specs.prim_names.prim_faults.Sights.{under};
-ghost use Rattle.vm_states.specs.vm_fetching.declared.operations.NumberOp.TheVariants as number_ops;
+ghost use Rattle.vm_states.specs.vm_fetching.declared.operations.LocalOp.TheVariants as local_ops;
 ghost use Rattle.vm_states.specs.Acting.{RunsOver};
 ghost use Rattle.state_values.specs.Keeping.{ActsKeeping};
 
@@ -19,9 +19,9 @@ pub(crate) fn load_fast<C: Constants>(
     n: u32,
     end: u32,
 ) -> Result<(), Stop>
-    requires runs { under C.Constants consts.now RunsOver arena.now frames.old (record { instruction = fetched.Number number_ops.LoadFast n; end = end }) }
+    requires runs { under C.Constants consts.now RunsOver arena.now frames.old (record { instruction = fetched.local local_ops.LoadFast n; end = end }) }
     ensures acts { under C.Constants consts.now ActsKeeping (record {
-      instruction = fetched.Number number_ops.LoadFast n;
+      instruction = fetched.local local_ops.LoadFast n;
       end = end;
     }) 0 arena.now arena.now frames.old frames.new result }
 {
@@ -37,9 +37,9 @@ pub(crate) fn load_fast_n<C: Constants>(
     n: u32,
     end: u32,
 ) -> Result<(), Stop>
-    requires runs { under C.Constants consts.now RunsOver arena.now frames.old (record { instruction = fetched.Number number_ops.LoadFastN n; end = end }) }
+    requires runs { under C.Constants consts.now RunsOver arena.now frames.old (record { instruction = fetched.local local_ops.LoadFastN n; end = end }) }
     ensures acts { under C.Constants consts.now ActsKeeping (record {
-      instruction = fetched.Number number_ops.LoadFastN n;
+      instruction = fetched.local local_ops.LoadFastN n;
       end = end;
     }) 0 arena.now arena.now frames.old frames.new result }
 {
@@ -55,9 +55,9 @@ pub(crate) fn delete_fast<C: Constants>(
     n: u32,
     end: u32,
 ) -> Result<(), Stop>
-    requires runs { under C.Constants consts.now RunsOver arena.now frames.old (record { instruction = fetched.Number number_ops.DeleteFast n; end = end }) }
+    requires runs { under C.Constants consts.now RunsOver arena.now frames.old (record { instruction = fetched.local local_ops.DeleteFast n; end = end }) }
     ensures acts { under C.Constants consts.now ActsKeeping (record {
-      instruction = fetched.Number number_ops.DeleteFast n;
+      instruction = fetched.local local_ops.DeleteFast n;
       end = end;
     }) 0 arena.now arena.now frames.old frames.new result }
 {

@@ -1,6 +1,6 @@
 //! Operations on the names of a module, as they were fetched for calls of a program.
 
-ghost use Rattle.vm_states.specs.vm_fetching.declared.instruction.Instruction.TheVariants as fetched;
+ghost use Rattle.vm_states.specs.vm_fetching.Instructions as fetched;
 ghost use Rattle.vm_states.specs.prim_names.prim_faults.Sights.{under};
 ghost use Rattle.vm_states.specs.vm_fetching.declared.operations.NameOp.TheVariants as name_ops;
 ghost use Rattle.vm_states.specs.Acting.{RunsOver};
@@ -20,9 +20,9 @@ pub(crate) fn load_name<C: Constants>(
     name: StrNo,
     end: u32,
 ) -> Result<(), Stop>
-    requires runs { under C.Constants consts.now RunsOver arena.now frames.old (record { instruction = fetched.Name name_ops.LoadName name; end = end }) }
+    requires runs { under C.Constants consts.now RunsOver arena.now frames.old (record { instruction = fetched.name name_ops.LoadName name; end = end }) }
     ensures acts { under C.Constants consts.now ActsKeeping (record {
-      instruction = fetched.Name name_ops.LoadName name;
+      instruction = fetched.name name_ops.LoadName name;
       end = end;
     }) 0 arena.now arena.now frames.old frames.new result }
 {
@@ -38,9 +38,9 @@ pub(crate) fn load_global<C: Constants>(
     name: StrNo,
     end: u32,
 ) -> Result<(), Stop>
-    requires runs { under C.Constants consts.now RunsOver arena.now frames.old (record { instruction = fetched.Name name_ops.LoadGlobal name; end = end }) }
+    requires runs { under C.Constants consts.now RunsOver arena.now frames.old (record { instruction = fetched.name name_ops.LoadGlobal name; end = end }) }
     ensures acts { under C.Constants consts.now ActsKeeping (record {
-      instruction = fetched.Name name_ops.LoadGlobal name;
+      instruction = fetched.name name_ops.LoadGlobal name;
       end = end;
     }) 0 arena.now arena.now frames.old frames.new result }
 {
@@ -56,9 +56,9 @@ pub(crate) fn store_name<C: Constants>(
     name: StrNo,
     end: u32,
 ) -> Result<(), Stop>
-    requires runs { under C.Constants consts.now RunsOver arena.old frames.old (record { instruction = fetched.Name name_ops.StoreName name; end = end }) }
+    requires runs { under C.Constants consts.now RunsOver arena.old frames.old (record { instruction = fetched.name name_ops.StoreName name; end = end }) }
     ensures acts { under C.Constants consts.now ActsKeeping (record {
-      instruction = fetched.Name name_ops.StoreName name;
+      instruction = fetched.name name_ops.StoreName name;
       end = end;
     }) 0 arena.old arena.new frames.old frames.new result }
 {
@@ -75,9 +75,9 @@ pub(crate) fn store_global<C: Constants>(
     name: StrNo,
     end: u32,
 ) -> Result<(), Stop>
-    requires runs { under C.Constants consts.now RunsOver arena.old frames.old (record { instruction = fetched.Name name_ops.StoreGlobal name; end = end }) }
+    requires runs { under C.Constants consts.now RunsOver arena.old frames.old (record { instruction = fetched.name name_ops.StoreGlobal name; end = end }) }
     ensures acts { under C.Constants consts.now ActsKeeping (record {
-      instruction = fetched.Name name_ops.StoreGlobal name;
+      instruction = fetched.name name_ops.StoreGlobal name;
       end = end;
     }) 0 arena.old arena.new frames.old frames.new result }
 {
@@ -94,9 +94,9 @@ pub(crate) fn delete_name<C: Constants>(
     name: StrNo,
     end: u32,
 ) -> Result<(), Stop>
-    requires runs { under C.Constants consts.now RunsOver arena.old frames.old (record { instruction = fetched.Name name_ops.DeleteName name; end = end }) }
+    requires runs { under C.Constants consts.now RunsOver arena.old frames.old (record { instruction = fetched.name name_ops.DeleteName name; end = end }) }
     ensures acts { under C.Constants consts.now ActsKeeping (record {
-      instruction = fetched.Name name_ops.DeleteName name;
+      instruction = fetched.name name_ops.DeleteName name;
       end = end;
     }) 0 arena.old arena.new frames.old frames.new result }
 {
@@ -112,9 +112,9 @@ pub(crate) fn delete_global<C: Constants>(
     name: StrNo,
     end: u32,
 ) -> Result<(), Stop>
-    requires runs { under C.Constants consts.now RunsOver arena.old frames.old (record { instruction = fetched.Name name_ops.DeleteGlobal name; end = end }) }
+    requires runs { under C.Constants consts.now RunsOver arena.old frames.old (record { instruction = fetched.name name_ops.DeleteGlobal name; end = end }) }
     ensures acts { under C.Constants consts.now ActsKeeping (record {
-      instruction = fetched.Name name_ops.DeleteGlobal name;
+      instruction = fetched.name name_ops.DeleteGlobal name;
       end = end;
     }) 0 arena.old arena.new frames.old frames.new result }
 {

@@ -4,8 +4,8 @@ ghost use Rattle.std.specs.Prelude.{◌≡◌, true, false};
 ghost use Rattle.vm_states.specs.prim_names.arena_heap.declared.value.Value.{Value as Item};
 ghost use Rattle.vm_states.specs.prim_names.prim_faults.Sights.{under};
 ghost use Rattle.vm_states.specs.frame_values.Slots.{HasValue, HasNull};
-ghost use Rattle.vm_states.specs.vm_fetching.declared.operations.PlainOp.TheVariants as plain_ops;
-ghost use Rattle.state_values.specs.Moving.{fetched_plain};
+ghost use Rattle.vm_states.specs.vm_fetching.declared.operations.ItemOp.TheVariants as item_ops;
+ghost use Rattle.state_values.specs.Moving.{fetched_item};
 ghost use Rattle.vm_states.specs.Acting.{RunsOver};
 ghost use Rattle.state_values.specs.Keeping.{ActsKeeping};
 ghost use Rattle.state_values.specs.Operands.{HasOperand, is_null as is_null_slot};
@@ -23,8 +23,8 @@ pub(crate) fn load_subscr<C: Constants>(
     consts: &C,
     end: u32,
 ) -> Result<(), Stop>
-    requires runs { under C.Constants consts.now RunsOver arena.old frames.old (fetched_plain plain_ops.LoadSubscr end) }
-    ensures acts { under C.Constants consts.now ActsKeeping (fetched_plain plain_ops.LoadSubscr end) 0 arena.old arena.new frames.old frames.new result }
+    requires runs { under C.Constants consts.now RunsOver arena.old frames.old (fetched_item item_ops.LoadSubscr end) }
+    ensures acts { under C.Constants consts.now ActsKeeping (fetched_item item_ops.LoadSubscr end) 0 arena.old arena.new frames.old frames.new result }
 {
     acting_law();
     tops_law();
@@ -62,9 +62,9 @@ fn set_subscr<C: Constants>(
     consts: &C,
     end: u32,
 ) -> Result<(), Stop>
-    requires runs { under C.Constants consts.now RunsOver arena.old frames.old (fetched_plain plain_ops.StoreSubscr end) }
+    requires runs { under C.Constants consts.now RunsOver arena.old frames.old (fetched_item item_ops.StoreSubscr end) }
     requires value { (v : Item) × HasValue 2 v frames.old.calls }
-    ensures acts { under C.Constants consts.now ActsKeeping (fetched_plain plain_ops.StoreSubscr end) 0 arena.old arena.new frames.old frames.new result }
+    ensures acts { under C.Constants consts.now ActsKeeping (fetched_item item_ops.StoreSubscr end) 0 arena.old arena.new frames.old frames.new result }
 {
     acting_law();
     tops_law();
@@ -78,9 +78,9 @@ fn delete_subscr<C: Constants>(
     consts: &C,
     end: u32,
 ) -> Result<(), Stop>
-    requires runs { under C.Constants consts.now RunsOver arena.old frames.old (fetched_plain plain_ops.StoreSubscr end) }
+    requires runs { under C.Constants consts.now RunsOver arena.old frames.old (fetched_item item_ops.StoreSubscr end) }
     requires no_value { HasNull 2 frames.old.calls }
-    ensures acts { under C.Constants consts.now ActsKeeping (fetched_plain plain_ops.StoreSubscr end) 0 arena.old arena.new frames.old frames.new result }
+    ensures acts { under C.Constants consts.now ActsKeeping (fetched_item item_ops.StoreSubscr end) 0 arena.old arena.new frames.old frames.new result }
 {
     acting_law();
     tops_law();
@@ -94,8 +94,8 @@ pub(crate) fn store_subscr<C: Constants>(
     consts: &C,
     end: u32,
 ) -> Result<(), Stop>
-    requires runs { under C.Constants consts.now RunsOver arena.old frames.old (fetched_plain plain_ops.StoreSubscr end) }
-    ensures acts { under C.Constants consts.now ActsKeeping (fetched_plain plain_ops.StoreSubscr end) 0 arena.old arena.new frames.old frames.new result }
+    requires runs { under C.Constants consts.now RunsOver arena.old frames.old (fetched_item item_ops.StoreSubscr end) }
+    ensures acts { under C.Constants consts.now ActsKeeping (fetched_item item_ops.StoreSubscr end) 0 arena.old arena.new frames.old frames.new result }
 {
     tops_law();
     if lacks_third(frames) {
@@ -112,8 +112,8 @@ pub(crate) fn store_map<C: Constants>(
     consts: &C,
     end: u32,
 ) -> Result<(), Stop>
-    requires runs { under C.Constants consts.now RunsOver arena.old frames.old (fetched_plain plain_ops.StoreMap end) }
-    ensures acts { under C.Constants consts.now ActsKeeping (fetched_plain plain_ops.StoreMap end) 0 arena.old arena.new frames.old frames.new result }
+    requires runs { under C.Constants consts.now RunsOver arena.old frames.old (fetched_item item_ops.StoreMap end) }
+    ensures acts { under C.Constants consts.now ActsKeeping (fetched_item item_ops.StoreMap end) 0 arena.old arena.new frames.old frames.new result }
 {
     acting_law();
     tops_law();

@@ -4,7 +4,6 @@
 mod acting;
 mod at_once;
 mod fetching;
-mod forms;
 mod names;
 mod opening;
 mod paying;

@@ -3,8 +3,8 @@ use Rattle.vm_states.specs.bc_ops.declared.instr.Op.TheVariants as ops
 use Rattle.vm_states.specs.prim_names.arena_heap.declared.value.StrNo.{StrNo}
 use Rattle.vm_states.specs.prim_names.arena_objects.Iterables.{or_nothing}
 use Rattle.vm_states.specs.bc_machine.Library.{Names}
-use Rattle.vm_states.specs.vm_fetching.declared.instruction.Instruction.TheVariants as fetched
-use Rattle.vm_states.specs.vm_fetching.declared.operations.NameOp.TheVariants as name_ops
+use Rattle.vm_states.specs.vm_fetching.Instructions as fetched
+use Rattle.vm_states.specs.vm_fetching.declared.operations.AttributeOp.TheVariants as attribute_ops
 use Rattle.state_values.proofs.Ending as ending
 use Rattle.state_values.proofs.Finding as finding
 use Rattle.state_values.proofs.attributes.import_from.Goals as goal
@@ -24,6 +24,6 @@ import_from-requires-clause-all_told g c = finding.all_told c.requires.runs
 pub returns : goal.returns
 returns g c =
     record {
-      acts = ending.puts c.acting_law.ensures.acts (record { instruction = fetched.Name name_ops.ImportFrom c.args.name; end = c.args.end }) (λ p s row r. r.begins tt) 0 (Names ops.ImportFrom (or_nothing (g.C.Constants.text_of c.args.consts.now c.args.name))) c.args.frames.now c.import_from.new.frames
+      acts = ending.puts c.acting_law.ensures.acts (record { instruction = fetched.attribute attribute_ops.ImportFrom c.args.name; end = c.args.end }) (λ p s row r. r.begins tt) 0 (Names ops.ImportFrom (or_nothing (g.C.Constants.text_of c.args.consts.now c.args.name))) c.args.frames.now c.import_from.new.frames
           c.import_from.ensures.leaves (λ p d tells. ap (λ (t : StrNo → Option (List ℕ)). Names ops.ImportFrom (or_nothing (t c.args.name))) tells.texts_are) c.import_from.ensures.steps 0 c.import_from.ensures.moved;
     }

@@ -1,5 +1,5 @@
-use Rattle.vm_states.specs.vm_fetching.declared.instruction.Instruction.TheVariants as fetched
-use Rattle.vm_states.specs.vm_fetching.declared.operations.JumpOp.TheVariants as jump_ops
+use Rattle.vm_states.specs.vm_fetching.Instructions as fetched
+use Rattle.vm_states.specs.vm_fetching.declared.operations.HandlerOp.TheVariants as handler_ops
 use Rattle.state_values.proofs.Finding as finding
 use Rattle.state_values.proofs.Shifting as shifting
 use Rattle.state_values.proofs.moving.pop_except_jump.Goals as goal
@@ -15,6 +15,6 @@ returns g c =
     let old = c.args.frames.now in
     let new = c.end_except.new.frames in
     record {
-      acts = c.acting_law.ensures.moves texts tuples (record { instruction = fetched.Jump jump_ops.PopExceptJump c.args.target; end = c.args.end }) heap old new c.end_except.ensures.goes
+      acts = c.acting_law.ensures.moves texts tuples (record { instruction = fetched.handle handler_ops.PopExceptJump c.args.target; end = c.args.end }) heap old new c.end_except.ensures.goes
           (shifting.entry_left texts tuples heap.objects old new c.args.target c.end_except.ensures.moved);
     }

@@ -3,7 +3,7 @@ use Rattle.vm_states.specs.bc_ops.declared.instr.Op.TheVariants as ops
 use Rattle.vm_states.specs.prim_names.arena_heap.declared.value.StrNo.{StrNo}
 use Rattle.vm_states.specs.prim_names.arena_objects.Iterables.{or_nothing}
 use Rattle.vm_states.specs.bc_machine.Library.{Names}
-use Rattle.vm_states.specs.vm_fetching.declared.instruction.Instruction.TheVariants as fetched
+use Rattle.vm_states.specs.vm_fetching.Instructions as fetched
 use Rattle.vm_states.specs.vm_fetching.declared.operations.NameOp.TheVariants as name_ops
 use Rattle.state_values.proofs.Ending as ending
 use Rattle.state_values.proofs.Finding as finding
@@ -24,6 +24,6 @@ store_name-requires-clause-all_told g c = finding.all_told c.requires.runs
 pub returns : goal.returns
 returns g c =
     record {
-      acts = ending.takes c.acting_law.ensures.acts (record { instruction = fetched.Name name_ops.StoreName c.args.name; end = c.args.end }) (λ p s row r. r.begins tt) 0 (Names ops.StoreName (or_nothing (g.C.Constants.text_of c.args.consts.now c.args.name))) c.args.frames.now c.store_name.new.frames
+      acts = ending.takes c.acting_law.ensures.acts (record { instruction = fetched.name name_ops.StoreName c.args.name; end = c.args.end }) (λ p s row r. r.begins tt) 0 (Names ops.StoreName (or_nothing (g.C.Constants.text_of c.args.consts.now c.args.name))) c.args.frames.now c.store_name.new.frames
           c.store_name.ensures.leaves (λ p d tells. ap (λ (t : StrNo → Option (List ℕ)). Names ops.StoreName (or_nothing (t c.args.name))) tells.texts_are) c.store_name.ensures.name 1 c.store_name.ensures.moved;
     }
