@@ -8,7 +8,7 @@ use Rattle.bc_certificates.specs.Checking.{rows_of}
 use Rattle.bc_certificates.specs.Rows.{carried}
 use Rattle.bc_refusals.specs.Stages.{Keeps}
 use Rattle.bc_refusals.proofs.Starts.{rows_begin, rows_lead}
-use Rattle.bc_refusals.proofs.walk.keeps.Goals as goal
+use Rattle.bc_refusals.proofs.walk.keeps_each.Goals as goal
 
 pub returns : goal.returns
 returns c =
