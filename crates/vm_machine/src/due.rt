@@ -16,14 +16,7 @@ use vm_starting::Vm;
 
 /// Those of an operator over two operands, up to `most`.
 #[tactic(none)]
-fn binary_due(
-    vm: &Vm,
-    library: &Library,
-    row: &Row<'_>,
-    number: u8,
-    end: u32,
-    most: u64,
-) -> u64
+fn binary_due(vm: &Vm, library: &Library, row: &Row<'_>, number: u8, end: u32, most: u64) -> u64
     requires { HasFetched library.now vm.now row.now (record { instruction = fetched_as.binary number; end = end }) }
     ensures { (p : Program) → IsProgramOf library.now p → IsDue p vm.now most result }
 {
