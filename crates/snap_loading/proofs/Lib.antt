@@ -17,3 +17,5 @@ mod Slotting
 mod Standing
 mod Stated
 pub mod Valuing
+pub mod Besides
+pub mod Stacking
