@@ -1,8 +1,14 @@
 -- Slots and entries that are put on the running call, one on another.
 use Rattle.std.proofs.Common.{◌≡◌, ℕ, zero, suc, ◌+◌, ◌<◌, ◌≤◌, List, [], ◌∷◌, ◌++◌, length, map, take, reverse, slice_get, Some, refl, sym, ap, ◌∙◌, subst, arith, length-append, append_assoc}
 use Rattle.std.proofs.lemmas.List.{length-map, length-reverse, reverse-append}
+use Rattle.arena_heap.specs.declared.value.Value.{Value}
+use Rattle.bc_library.specs.Shelf.{Shelf}
+use Rattle.snap_grammar.specs.declared.parts.Snapshot.{Snapshot}
+use Rattle.snap_states.specs.Decoded.{iterator_of}
+use Rattle.snap_loading.specs.Framing.{iterator_slots}
 use Rattle.vm_frames.specs.declared.slot.Slot.{Slot}
 use Rattle.vm_frames.specs.declared.slot.Entry.{Entry}
+use Rattle.vm_frames.specs.declared.slot.Slot.TheVariants as stacked
 use Rattle.vm_frames.specs.Calls.{Call, Calls, OfRunning, change_first, on_running}
 
 -- two changes
@@ -41,8 +47,8 @@ pub push_room : (xs : List Slot) (k : ℕ) (s0 s1 : Calls) → s1 ≡ on_running
 push_room xs k s0 s1 d lt h =
     subst (λ (s : Calls). OfRunning (λ c. length c.slots < s.slot_room) s.calls) (sym d)
     (of_changed (λ c. length c.slots < s0.slot_room) (with_slots xs) s0.calls
-      (weaker (λ c. length c.slots + k ≤ s0.slot_room) (λ c. length (xs ++ c.slots) < s0.slot_room) s0.calls
-        (λ c le. let long : length (xs ++ c.slots) ≡ length xs + length c.slots = length-append xs c.slots in omega (arith, long, le, lt)) h))
+    (weaker (λ c. length c.slots + k ≤ s0.slot_room) (λ c. length (xs ++ c.slots) < s0.slot_room) s0.calls
+    (λ c le. let long : length (xs ++ c.slots) ≡ length xs + length c.slots = length-append xs c.slots in omega (arith, long, le, lt)) h))
 
 -- entries
 abbrev pub with_entries : List Entry → Call → Call
@@ -55,8 +61,8 @@ pub entry_room : (es : List Entry) (k : ℕ) (s0 s1 : Calls) → s1 ≡ on_runni
 entry_room es k s0 s1 d lt h =
     subst (λ (s : Calls). OfRunning (λ c. length c.entries < s.entry_room) s.calls) (sym d)
     (of_changed (λ c. length c.entries < s0.entry_room) (with_entries es) s0.calls
-      (weaker (λ c. length c.entries + k ≤ s0.entry_room) (λ c. length (es ++ c.entries) < s0.entry_room) s0.calls
-        (λ c le. let long : length (es ++ c.entries) ≡ length es + length c.entries = length-append es c.entries in omega (arith, long, le, lt)) h))
+    (weaker (λ c. length c.entries + k ≤ s0.entry_room) (λ c. length (es ++ c.entries) < s0.entry_room) s0.calls
+    (λ c le. let long : length (es ++ c.entries) ≡ length es + length c.entries = length-append es c.entries in omega (arith, long, le, lt)) h))
 
 -- the rooms stay
 pub slot_room_same : (f : Call → Call) (s0 s1 : Calls) → s1 ≡ on_running f s0 → s1.slot_room ≡ s0.slot_room
@@ -90,3 +96,12 @@ take_every (x ∷ xs) = ap (λ zs. x ∷ zs) (take_every xs)
 
 pub reverse_whole : {A B : Type 0} (f : A → B) (xs : List A) → map f (reverse (take (length xs) xs)) ≡ map f (reverse xs)
 reverse_whole f xs = ap (λ zs. map f (reverse zs)) (take_every xs)
+
+-- the slots of an iterator
+pub iterator_same : (shelf : Shelf) (s : Snapshot) (k : ℕ) (over : Value) (at : ℕ) → iterator_slots k over at ≡ iterator_of shelf s k over at
+iterator_same shelf s zero over at = refl
+iterator_same shelf s (suc k) over at = ap (λ xs. stacked.Iter over at k ∷ xs) (iterator_same shelf s k over at)
+
+pub iterator_long : (k : ℕ) (over : Value) (at : ℕ) → length (iterator_slots k over at) ≡ k
+iterator_long zero over at = refl
+iterator_long (suc k) over at = ap suc (iterator_long k over at)

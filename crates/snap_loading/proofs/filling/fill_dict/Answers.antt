@@ -63,7 +63,7 @@ loop-at-preserved c =
     let p : Value × Value = (c.value_of-key.result, c.value_of-v.result) in
     let same : p ≡ f c.pair_at-pair.result.now = ap₂ (λ (x y : Value). (x, y)) c.value_of-key.ensures c.value_of-v.ensures in
     let more : map f (take k pairs) ++ p ∷ [] ≡ map f (take (k + 1) pairs) =
-        ap (λ v. map f (take k pairs) ++ v ∷ []) same ∙ (sym (take_next f pairs k c.pair_at-pair.result.now c.pair_at-pair.ensures) ∙ ap (λ j. map f (take j pairs)) on) in
+    ap (λ v. map f (take k pairs) ++ v ∷ []) same ∙ (sym (take_next f pairs k c.pair_at-pair.result.now c.pair_at-pair.ensures) ∙ ap (λ j. map f (take j pairs)) on) in
     dict_step h n (map f (take k pairs)) (room_at h n) p c.loop-at.arena c.put_in_dict.new.arena lt c.loop-at.invariant c.put_in_dict.ensures
     ∙ ap (λ zs. with_object h n (DictObject zs (room_at h n))) more
 

@@ -63,7 +63,7 @@ loop-at-preserved c =
     let lt = put_within h n _ AList c.requires.begun refl in
     let on : suc k ≡ k + 1 = omega arith in
     let more : map f (take k items) ++ c.value_of-v.result ∷ [] ≡ map f (take (k + 1) items) =
-        ap (λ v. map f (take k items) ++ v ∷ []) c.value_of-v.ensures ∙ (sym (take_next f items k c.item_at-item.result.now c.item_at-item.ensures) ∙ ap (λ j. map f (take j items)) on) in
+    ap (λ v. map f (take k items) ++ v ∷ []) c.value_of-v.ensures ∙ (sym (take_next f items k c.item_at-item.result.now c.item_at-item.ensures) ∙ ap (λ j. map f (take j items)) on) in
     list_step h n (map f (take k items)) (room_at h n) k c.value_of-v.result c.loop-at.arena c.put_in_list.new.arena lt c.loop-at.invariant (sym (take_long f items k le)) c.put_in_list.ensures
     ∙ ap (λ zs. with_object h n (ListObject zs (room_at h n))) more
 

@@ -64,7 +64,7 @@ loop-at-preserved c =
     let one : length items - k ≡ suc (length items - (k + 1)) = omega (arith, c.loop-at-test.true) in
     let m = length items - (k + 1) in
     let more : map f (take k items) ++ c.value_of-v.result ∷ [] ≡ map f (take (k + 1) items) =
-        ap (λ v. map f (take k items) ++ v ∷ []) c.value_of-v.ensures ∙ (sym (take_next f items k c.item_at-item.result.now c.item_at-item.ensures) ∙ ap (λ j. map f (take j items)) on) in
+    ap (λ v. map f (take k items) ++ v ∷ []) c.value_of-v.ensures ∙ (sym (take_next f items k c.item_at-item.result.now c.item_at-item.ensures) ∙ ap (λ j. map f (take j items)) on) in
     let begun = c.loop-at.invariant ∙ ap (λ j. with_object h n (TupleObject (map f (take k items) ++ replicate j values.None))) one in
     tuple_step h n (map f (take k items)) m k c.value_of-v.result c.loop-at.arena c.tuple_fill.new.arena lt begun (sym (take_long f items k le)) c.tuple_fill.ensures.filled
     ∙ ap (λ zs. with_object h n (TupleObject (zs ++ replicate m values.None))) more
