@@ -1,6 +1,9 @@
 pub mod Given
 pub mod Looked
 pub mod Mixed
+pub mod Resumed
+pub mod Same
+pub mod Saved
 pub mod Shells
 pub mod Framing
 pub mod Texts

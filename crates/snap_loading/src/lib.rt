@@ -5,10 +5,16 @@ mod filling;
 mod frames;
 mod lookup;
 mod names;
+mod resumed;
 mod safe;
+mod same;
+mod saved;
 mod shown;
 mod strs;
 mod values;
 
+pub use resumed::{paid_too_law, resumes_law};
 pub use safe::{safe_law, shells_law};
+pub use same::{files_law, same_law, states_same_law};
+pub use saved::saved_law;
 pub use shown::shown_law;
