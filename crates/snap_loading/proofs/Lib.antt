@@ -1,6 +1,7 @@
 mod Bridging
 pub mod Counted
 pub mod Counting
+pub mod Entitled
 mod Filing
 pub mod Filled
 pub mod Finding

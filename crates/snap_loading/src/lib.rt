@@ -11,6 +11,7 @@ mod same;
 mod saved;
 mod shown;
 mod strs;
+mod titles;
 mod values;
 
 pub use resumed::{paid_too_law, resumes_law};
@@ -18,3 +19,4 @@ pub use safe::{safe_law, shells_law};
 pub use same::{files_law, same_law, states_same_law};
 pub use saved::saved_law;
 pub use shown::shown_law;
+pub use titles::titles_law;
