@@ -23,6 +23,7 @@ mod Saming
 mod Saving
 mod Showing
 mod Slotting
+mod Solely
 mod Standing
 mod Stated
 pub mod Valuing

@@ -1,3 +1,4 @@
+pub mod Coded
 pub mod Given
 pub mod Looked
 pub mod Mixed

@@ -5,6 +5,7 @@ mod filling;
 mod frames;
 mod lookup;
 mod names;
+mod one_state;
 mod resumed;
 mod safe;
 mod same;
@@ -14,6 +15,7 @@ mod strs;
 mod titles;
 mod values;
 
+pub use one_state::one_state_law;
 pub use resumed::{paid_too_law, resumes_law};
 pub use safe::{safe_law, shells_law};
 pub use same::{files_law, same_law, states_same_law};

@@ -1,23 +1,27 @@
 //! The numbers of the names of codes.
 
-ghost use Rattle.std.specs.Prelude.{◌≡◌, ℕ, Some};
-ghost use Rattle.bc_library.specs.bc_verify.qstr_pool.declared.table.TheConstants.{FIRST_OWN};
-ghost use Rattle.bc_library.specs.mpy_tree.Codes.{Placed};
-ghost use Rattle.bc_library.specs.Shelf.{Shelf};
-ghost use Rattle.vm_starting.specs.vm_states.bc_rows.Codes.{code_numbered};
-ghost use Rattle.vm_starting.specs.Programs.{IsRunnable};
+ghost use Rattle.std.specs.Prelude.{◌≡◌, ℕ};
+ghost use Rattle.vm_starting.specs.vm_states.bc_rows.declared.row.Row.{Row as CodeRow};
+ghost use Rattle.vm_starting.specs.vm_states.bc_rows.Rows.{IsRow};
 ghost use Rattle.snap_states.specs.Decoded.{AreTitles};
+ghost use Rattle.snap_loading.specs.Coded.{HasCode, HasOneTitle};
 
-use bc_library::{Library, library_law};
+use bc_library::{Library, library_law, modules_law};
 use vm_machine::Rows;
 use vm_starting::{code_law, program_law};
 
-/// The codes of a library that runs have numbers for their names.
-pub fn titles_law()
-    ensures { (shelf : Shelf) → IsRunnable shelf → shelf.pool.first ≡ FIRST_OWN → (title : ℕ → ℕ → ℕ) × AreTitles shelf title }
+/// The names of a library's codes have numbers, one each, and each code that is there has a row.
+pub fn titles_law(library: &Library, rows: &Rows<'_>)
+    requires { rows.now ≡ library.now }
+    ensures titles { (title : ℕ → ℕ → ℕ) × AreTitles library.now title }
+    ensures one { HasOneTitle library.now }
+    ensures rows { (m code : ℕ) → HasCode library.now m code → (row : CodeRow) × IsRow library.now m code row }
 {
+    library_law(library);
+    modules_law(library);
     program_law();
     code_law();
+    rows.codes_law();
 }
 
 /// The number of the name of a code that is there. In constant time.
@@ -27,12 +31,12 @@ pub(crate) fn code_title(
     module_number: u32,
     code: u32,
 ) -> u32
-    requires runnable { IsRunnable library.now }
     requires rows { rows.now ≡ library.now }
-    requires there { (placed : Placed) × (code_numbered library.now module_number code ≡ Some placed) }
+    requires there { HasCode library.now module_number code }
     ensures { (title : ℕ → ℕ → ℕ) → AreTitles library.now title → result ≡ title module_number code }
 {
     library_law(library);
+    modules_law(library);
     program_law();
     code_law();
     let Some(row) = rows.row(module_number, code) else {
