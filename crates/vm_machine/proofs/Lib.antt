@@ -1,9 +1,12 @@
 mod AtOnce
+mod Begun
 mod Called
 mod Fetched
+mod Free
 mod Machines
 mod Moves
 mod Opened
+mod Owed
 mod Pays
 mod Runs
 mod Standing

@@ -3,6 +3,7 @@
 
 mod acting;
 mod at_once;
+mod due;
 mod fetching;
 mod forms;
 mod names;
@@ -11,6 +12,8 @@ mod paying;
 mod running;
 mod stepping;
 
+pub use due::visits_due;
+pub use names::module_names;
 pub use opening::{open, used};
 pub use running::run;
 pub use vm_at_once::{End, Rows};
