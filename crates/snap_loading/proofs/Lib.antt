@@ -14,13 +14,14 @@ pub mod Matching
 pub mod Mixing
 pub mod Numbered
 pub mod Numbering
-mod Paying
+mod PaidToo
 pub mod Putting
 mod Registering
 mod Resuming
 mod Returning
 mod Saming
 mod Saving
+mod Settled
 mod Showing
 mod Slotting
 mod Solely

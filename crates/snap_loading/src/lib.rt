@@ -6,6 +6,7 @@ mod frames;
 mod lookup;
 mod names;
 mod one_state;
+mod paying;
 mod resumed;
 mod safe;
 mod same;
