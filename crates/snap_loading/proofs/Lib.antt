@@ -30,3 +30,4 @@ mod Stated
 pub mod Valuing
 pub mod Besides
 pub mod Stacking
+mod Wherever

@@ -1,6 +1,7 @@
 //! The machine of a snapshot.
 #![tactic(auto)]
 
+mod anywhere;
 mod filling;
 mod frames;
 mod lookup;
@@ -16,6 +17,7 @@ mod strs;
 mod titles;
 mod values;
 
+pub use anywhere::paid_anywhere_law;
 pub use one_state::one_state_law;
 pub use resumed::{paid_too_law, resumes_law};
 pub use safe::{safe_law, shells_law};

@@ -103,7 +103,7 @@ module _ (library : Library) (place : Place) (paid : ℕ) (frame : Frame) (frame
   free_begun : {A : Type 0} (effect : Effect A) (next : A → PlainWorld → State) → effect.visits ≡ 0 → ((a : A) (w1 : PlainWorld) → IsBegun (next a w1)) → IsBegun (does library place paid frame frames w effect next)
   free_begun effect next none h = does_begun effect next (omega (arith, none)) h
 
-  gives_begun : (slots : List Slot) (effect : Effect Val) → effect.visits ≤ paid → IsBegun (gives library place paid frame frames w slots effect)
+  pub gives_begun : (slots : List Slot) (effect : Effect Val) → effect.visits ≤ paid → IsBegun (gives library place paid frame frames w slots effect)
   gives_begun slots effect enough = does_begun effect _ enough (λ v w1. refl)
 
   gives_free : (slots : List Slot) (effect : Effect Val) → effect.visits ≡ 0 → IsBegun (gives library place paid frame frames w slots effect)

@@ -241,7 +241,7 @@ abbrev NoVisits : {A : Type 0} → Effect A → Type 0
 NoVisits effect = effect.visits ≡ 0
 
 registered_free : (w : PlainWorld) (name : List ℕ) (effect : Effect Made) (r : Result Made Stop) → NoVisits effect
-    → NoVisits (elim r [ Ok made ↦ record { answer = Ok made; world = registered effect.world name made; visits = 0 } | Err stop ↦ effect ])
+    → NoVisits {A = Made} (elim r [ Ok made ↦ record { answer = Ok made; world = registered effect.world name made; visits = 0 } | Err stop ↦ effect ])
 registered_free w name effect (Ok made) e = refl
 registered_free w name effect (Err stop) e = e
 
@@ -255,7 +255,7 @@ making_module_free w name =
 pub make_module_free : (w : PlainWorld) (name : List ℕ) → (make_module w name).visits ≡ 0
 make_module_free w name = registered_free w name (making_module w name) (making_module w name).answer (making_module_free w name)
 
-bound_free : (w : PlainWorld) (r : Result Locals Fault) → NoVisits (elim r [ Ok slots ↦ effects.does slots w | Err fault ↦ effects.faults fault w ])
+bound_free : (w : PlainWorld) (r : Result Locals Fault) → NoVisits {A = Locals} (elim r [ Ok slots ↦ effects.does slots w | Err fault ↦ effects.faults fault w ])
 bound_free w (Ok slots) = refl
 bound_free w (Err fault) = refl
 

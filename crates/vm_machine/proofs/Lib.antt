@@ -1,5 +1,5 @@
 mod AtOnce
-mod Begun
+pub mod Begun
 mod Called
 mod Fetched
 mod Free
@@ -7,7 +7,7 @@ mod Machines
 mod Moves
 mod Opened
 mod Owed
-mod Pays
+pub mod Pays
 mod Runs
 mod Standing
 mod Stepped

@@ -46,11 +46,11 @@ use Rattle.state_steps.specs.Values.{value_visits}
 use Rattle.vm_machine.proofs.Machines.{in_program}
 
 module _ (library : Library) (place : Place) (paid : ℕ) (frame : states.Frame) (frames : List states.Frame) (w : PlainWorld) where
-  unpaid : {A : Type 0} (effect : Effect A) (next : A → PlainWorld → State) → paid < effect.visits → step.does library place paid frame frames w effect next ≡ Running (suc paid) frame frames w
+  pub unpaid : {A : Type 0} (effect : Effect A) (next : A → PlainWorld → State) → paid < effect.visits → step.does library place paid frame frames w effect next ≡ Running (suc paid) frame frames w
   unpaid effect next less = ap (λ (b : Bool). step.paying library place paid frame frames w b effect next) (lt-ltb paid effect.visits less)
 
   -- a callee's visits
-  callee_pays : (below : List states.Slot) (k : plain.Callee) (args : List Val) (keys : Keys) → paid < visits_of k args keys
+  pub callee_pays : (below : List states.Slot) (k : plain.Callee) (args : List Val) (keys : Keys) → paid < visits_of k args keys
       → step.run_callee library place paid frame frames w below k args keys ≡ Running (suc paid) frame frames w
   callee_pays below (plain.Acts act) args keys less = unpaid (act args keys) (λ v. step.next library place paid frame frames w (states.Value v ∷ below)) less
   callee_pays below (plain.Runs f) args keys less = absurd (omega (arith, less))
