@@ -32,11 +32,12 @@ module _ (shelf : Shelf) (s : Snapshot) where
 
     all_same : (os : List ObjectPart) → ((n : ℕ) (o : ObjectPart) → slice_get os n ≡ Some o → AreSame o) → flat_map (cells_with shelf s a) os ≡ flat_map (cells_with shelf s b) os
     all_same [] h = refl
-    all_same (o ∷ os) h = ap₂ (λ (x : ArenaObject) xs. (Some x ∷ replicate (more_cells o) None) ++ xs) (h 0 o refl) (all_same os (λ n p e. h (suc n) p e))
+    all_same (o ∷ os) h = ap₂ (λ (x : ArenaObject) (xs : List (Option ArenaObject)). (Some x ∷ replicate (more_cells o) None) ++ xs) (h 0 o refl) (all_same os (λ n p e. h (suc n) p e))
 
     heap_same : ((n : ℕ) (o : ObjectPart) → slice_get s.objects n ≡ Some o → AreSame o) → heap_of shelf s a ≡ heap_of shelf s b
     heap_same h =
-        ap (λ (xs : List (Option ArenaObject)). record { objects = xs ++ replicate (s.used_cells - cells_of_parts s.objects) None; bytes = s.used_bytes; cell_size = s.cells; byte_size = s.bytes }) (all_same s.objects h)
+        ap (λ (xs : List (Option ArenaObject)).
+        let heap : Heap Value ℕ = record { objects = xs ++ replicate (s.used_cells - cells_of_parts s.objects) None; bytes = s.used_bytes; cell_size = s.cells; byte_size = s.bytes } in heap) (all_same s.objects h)
 
   -- a function's number for its name is one
   object_same : HasOneTitle shelf → (a b : ℕ → ℕ → ℕ) → AreTitles shelf a → AreTitles shelf b → (n : ℕ) (o : ObjectPart) → IsFineObject shelf s n o → object_of shelf s a o ≡ object_of shelf s b o
@@ -93,7 +94,7 @@ module _ (shelf : Shelf) (s : Snapshot) where
   frames_same [] (c ∷ cs) ds h g = absurd h
   frames_same (f ∷ fs) [] ds h g = absurd h
   frames_same (f ∷ fs) (c ∷ cs) [] h g = absurd g
-  frames_same (f ∷ fs) (c ∷ cs) (d ∷ ds) h g = ap₂ (λ (x : Call) xs. x ∷ xs) (call_same f c d h.0 g.0) (frames_same fs cs ds h.1 g.1)
+  frames_same (f ∷ fs) (c ∷ cs) (d ∷ ds) h g = ap₂ (λ (x : Call) (xs : List Call). x ∷ xs) (call_same f c d h.0 g.0) (frames_same fs cs ds h.1 g.1)
 
   -- the whole
   -- =========
