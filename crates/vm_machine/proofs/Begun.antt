@@ -178,20 +178,20 @@ module _ (library : Library) (place : Place) (paid : ℕ) (frame : Frame) (frame
   name_begun _ name st = tt
 
   number_begun : (op : Op) (n : ℕ) (st : List Slot) → NoCall op → IsBegun (number_step library place paid frame frames w op n st)
-  number_begun ops.LoadFast n st no = gives_free st (load_local w frame.locals n) (load_local_free w frame.locals n)
-  number_begun ops.LoadFastN n st no = gives_free st (load_local w frame.locals n) (load_local_free w frame.locals n)
-  number_begun ops.StoreFast n (Value v ∷ st) no = refl
-  number_begun ops.StoreFastN n (Value v ∷ st) no = refl
-  number_begun ops.DeleteFast n st no = free_begun (load_local w frame.locals n) _ (load_local_free w frame.locals n) (λ v w1. refl)
-  number_begun ops.BuildTuple n st no = gives_free (drop n st) (on_heap w (making_tuple w.heap (values n st))) (tuple_free w.heap (values n st))
-  number_begun ops.BuildList n st no = gives_free (drop n st) (on_heap w (making_list w.heap (values n st))) (list_free w.heap (values n st))
-  number_begun ops.BuildMap n st no = gives_free st (on_heap w (making w.heap (DictObject [] (room_for n)))) (making_free w.heap (DictObject [] (room_for n)))
-  number_begun ops.UnpackSequence n (Value v ∷ st) no = free_begun (on_heap w (unpack w.heap n v)) _ (unpack_free w.heap n v) (λ vs w1. refl)
-  number_begun ops.MakeFunction n st no = make_begun st Nil (child library place paid frame frames w n)
-  number_begun ops.MakeFunctionDefargs n (Null ∷ Value d ∷ st) no = make_with_begun st d (child library place paid frame frames w n)
-  number_begun ops.CallFunction n st no = absurd no
-  number_begun ops.CallMethod n st no = absurd no
-  number_begun _ n st no = tt
+  number_begun ops.LoadFast n st calm = gives_free st (load_local w frame.locals n) (load_local_free w frame.locals n)
+  number_begun ops.LoadFastN n st calm = gives_free st (load_local w frame.locals n) (load_local_free w frame.locals n)
+  number_begun ops.StoreFast n (Value v ∷ st) calm = refl
+  number_begun ops.StoreFastN n (Value v ∷ st) calm = refl
+  number_begun ops.DeleteFast n st calm = free_begun (load_local w frame.locals n) _ (load_local_free w frame.locals n) (λ v w1. refl)
+  number_begun ops.BuildTuple n st calm = gives_free (drop n st) (on_heap w (making_tuple w.heap (values n st))) (tuple_free w.heap (values n st))
+  number_begun ops.BuildList n st calm = gives_free (drop n st) (on_heap w (making_list w.heap (values n st))) (list_free w.heap (values n st))
+  number_begun ops.BuildMap n st calm = gives_free st (on_heap w (making w.heap (DictObject [] (room_for n)))) (making_free w.heap (DictObject [] (room_for n)))
+  number_begun ops.UnpackSequence n (Value v ∷ st) calm = free_begun (on_heap w (unpack w.heap n v)) _ (unpack_free w.heap n v) (λ vs w1. refl)
+  number_begun ops.MakeFunction n st calm = make_begun st Nil (child library place paid frame frames w n)
+  number_begun ops.MakeFunctionDefargs n (Null ∷ Value d ∷ st) calm = make_with_begun st d (child library place paid frame frames w n)
+  number_begun ops.CallFunction n st calm = absurd calm
+  number_begun ops.CallMethod n st calm = absurd calm
+  number_begun _ n st calm = tt
 
   end_begun : (cause : Slot) (st : List Slot) (entries : List states.Entry) → IsBegun (end_finally library place paid frame frames w cause st entries)
   end_begun cause st (e ∷ entries) = resume_begun cause st entries frame frames w

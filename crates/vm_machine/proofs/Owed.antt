@@ -65,9 +65,9 @@ CallsNothing (fetched.Number op n) = CallsValue op → ⊥
 CallsNothing i = Unit {0}
 
 no_call : (op : NumberOp) → (CallsValue op → ⊥) → NoCall (number_op op)
-no_call number_ops.CallFunction no = no tt
-no_call number_ops.CallMethod no = no tt
-no_call _ no = tt
+no_call number_ops.CallFunction never = never tt
+no_call number_ops.CallMethod never = never tt
+no_call _ never = tt
 
 -- what has a form is none
 pub calls_nothing : (i : Instruction) (form : Form) → HasForm i form → CallsNothing i
@@ -100,15 +100,15 @@ module _ (t : Tables) (library : Library) (place : Place) (paid : ℕ) (heap : H
 
   paid_for : (starts : List ℕ) (c : Call) (cs : List Call) (i : Instruction) → CallsNothing i → value_visits t.texts t.tuples heap (c ∷ cs) i ≤ paid
       → IsPaidFor library place paid (frame_of (view_of t) c) (map (frame_of (view_of t)) cs) W (item_of_fetched t starts i)
-  paid_for starts c cs (fetched.Binary number) no enough = slots_paid number (starts_of (view_of t) c) c.slots enough
-  paid_for starts c cs (fetched.Number op n) no enough = no_call op no
-  paid_for starts c cs i no enough = tt
+  paid_for starts c cs (fetched.Binary number) never enough = slots_paid number (starts_of (view_of t) c) c.slots enough
+  paid_for starts c cs (fetched.Number op n) never enough = no_call op never
+  paid_for starts c cs i never enough = tt
 
   value_begun : (starts : List ℕ) (i : Instruction) (calls : List Call) → CallsNothing i → value_visits t.texts t.tuples heap calls i ≤ paid
       → IsBegun (step_of t library place paid calls W (item_of_fetched t starts i))
-  value_begun starts i [] no enough = tt
-  value_begun starts i (c ∷ cs) no enough =
-      item_begun library place paid (frame_of (view_of t) c) (map (frame_of (view_of t)) cs) W (item_of_fetched t starts i) (paid_for starts c cs i no enough)
+  value_begun starts i [] never enough = tt
+  value_begun starts i (c ∷ cs) never enough =
+      item_begun library place paid (frame_of (view_of t) c) (map (frame_of (view_of t)) cs) W (item_of_fetched t starts i) (paid_for starts c cs i never enough)
 
   calling_begun : (size : ℕ) (k : plain.Callee) (args : List Value) (keys : List (Value × Value)) (calls : List Call) → visits_of k (map (value_of t) args) (map (plain_pair t.texts t.tuples) keys) ≤ paid
       → IsBegun (calling_of t library place paid size calls W k args keys)
@@ -119,9 +119,9 @@ module _ (t : Tables) (library : Library) (place : Place) (paid : ℕ) (heap : H
 
 instruction_begun : (p : Program) (row : Row) (s : Calls) (f : Fetched) (r : IsReady p s row f) (heap : Heap Value ℕ) (paid : ℕ) (w : PlainWorld) → CallsNothing f.instruction
     → value_visits p.tables.texts p.tables.tuples heap s.calls f.instruction ≤ paid → IsBegun (stepped p paid s w heap)
-instruction_begun p row s f r heap paid w no enough =
+instruction_begun p row s f r heap paid w never enough =
     subst IsBegun (sym (r.steps paid (world_of p.tables w heap)))
-    (value_begun p.tables p.library r.place paid heap w (starts_of (view_of p.tables) r.first) f.instruction s.calls no enough)
+    (value_begun p.tables p.library r.place paid heap w (starts_of (view_of p.tables) r.first) f.instruction s.calls never enough)
 
 call_begun : (shelf : Shelf) (p : Program) → IsProgramOf shelf p → (row : Row) (s : Calls) (op : NumberOp) (number end : ℕ) (r : IsReady p s row (record { instruction = fetched.Number op number; end = end }))
     (heap : Heap Value ℕ) (given : Given) (call : Invocation) → IsTaken shelf op number heap s given call → (paid : ℕ) (w : PlainWorld) → visits p call.callee given heap w ≤ paid → IsBegun (stepped p paid s w heap)
@@ -145,7 +145,7 @@ module _ (shelf : Shelf) (vm : Vm) (row : Row) where
   -- of an instruction that is no call
   pub instruction_due : (f : Fetched) (h : HasFetched shelf vm row f) → CallsNothing f.instruction → (most due : ℕ) → due ≡ min (value_visits (text_at shelf) (items_at shelf) vm.arena vm.frames.calls f.instruction) most
       → (p : Program) → IsProgramOf shelf p → IsDue p vm most due
-  instruction_due f h no most due least p of =
+  instruction_due f h never most due least p of =
       let r = h.ready p of in
       let is : due ≡ min (value_visits p.tables.texts p.tables.tuples vm.arena vm.frames.calls f.instruction) most =
       in_program shelf p of (λ t u. due ≡ min (value_visits t u vm.arena vm.frames.calls f.instruction) most) least in
@@ -154,7 +154,7 @@ module _ (shelf : Shelf) (vm : Vm) (row : Row) where
         pays = λ w paid less. instruction_pays p row vm.frames f r vm.arena paid (with_modules p.tables w vm.modules) (omega (arith, is, less));
         acts = λ w lt.
             not_paid p.tables vm.frames.calls r.first r.others due (world_in p vm w) (step p.library (paying_in p vm due w)) r.are
-            (instruction_begun p row vm.frames f r vm.arena due (with_modules p.tables w vm.modules) no (omega (arith, is, lt)));
+            (instruction_begun p row vm.frames f r vm.arena due (with_modules p.tables w vm.modules) never (omega (arith, is, lt)));
       }
 
   -- of a call
