@@ -18,7 +18,7 @@ returns-clause-paid c =
     let vm = c.args.vm.now in
     let due = c.visits_due-due.result in
     let p = c.program_law.ensures.exists c.args.library.now c.requires.vm.runnable in (
-      (λ yes q of w. settled.is_paid q vm c.requires.goes_on due (c.visits_due-due.ensures.due q of) w (eqb-true due vm.paid yes)),
+      (λ test q of w. settled.is_paid q vm c.requires.goes_on due (c.visits_due-due.ensures.due q of) w (eqb-true due vm.paid test)),
       (λ all. eq-eqb due vm.paid (settled.all_due p.0 vm c.requires.goes_on due (c.visits_due-due.ensures.due p.0 p.1) (new_world 0 0 []) (all p.0 p.1 (new_world 0 0 [])))),
     )
 
