@@ -68,7 +68,7 @@ fn call_due(
 /// Those of the instruction that was fetched, up to `most`.
 #[tactic(none)]
 fn due_of(vm: &mut Vm, library: &Library, row: &Row<'_>, fetched: Fetched, most: u64) -> u64
-    requires fetched { HasFetched library.now vm.old row.now fetched }
+    requires { HasFetched library.now vm.old row.now fetched }
     ensures due { (p : Program) → IsProgramOf library.now p → IsDue p vm.old most result }
     ensures vm { IsVm library.now vm.new }
     ensures same { vm.new ≡ record vm.old { operands = vm.new.operands } }
