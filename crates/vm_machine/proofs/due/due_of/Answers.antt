@@ -27,7 +27,7 @@ pub returns-in-Acts-clause-due : goal.returns-in-Acts-clause-due
 returns-in-Acts-clause-due c p of =
     let work = subst (IsWork c.args.fetched.instruction) c.in-Acts.is c.work_of.ensures in
     let none = work.1 (text_at c.args.library.now) (items_at c.args.library.now) c.args.vm.now.arena c.args.vm.now.frames.calls in
-    instruction_due c.args.library.now c.args.vm.now c.args.row.now c.args.fetched c.requires (calls_nothing c.args.fetched.instruction c.in-Acts.field-0 work.0) c.args.most 0 (omega (arith, none)) p of
+    instruction_due c.args.library.now c.args.vm.now c.args.row.now c.args.fetched c.requires (calls_nothing c.args.fetched.instruction c.in-Acts._form work.0) c.args.most 0 (omega (arith, none)) p of
 
 pub returns-in-Acts-clause-vm : goal.returns-in-Acts-clause-vm
 returns-in-Acts-clause-vm c = c.requires.is_vm
