@@ -1,5 +1,5 @@
 -- How many steps an instruction is paid for hangs on the heap alone.
-use Rattle.std.proofs.Common.{◌≡◌, ℕ, suc, ◌<◌, ◌≤◌, List, [], ◌∷◌, Bool, Option, Some, None, inl, inr, refl, sym, ap, subst, ◌∙◌, arith}
+use Rattle.std.proofs.Common.{◌≡◌, ℕ, suc, ◌<◌, ◌≤◌, List, [], ◌∷◌, Option, Some, None, inl, inr, refl, sym, ap, subst, ◌∙◌, arith}
 use Rattle.std.specs.Prelude.{Result, Ok, Err, map}
 use Rattle.std.proofs.lemmas.Bool.{cases_lt}
 use Rattle.bc_machine.specs.mpy_base.declared.builtin.Builtin.{Builtin}
@@ -8,7 +8,6 @@ use Rattle.bc_machine.specs.mpy_base.World.{Object, FunctionObject, MethodObject
 use Rattle.bc_machine.specs.mpy_base.Val.{Val, Built, At, PlainWorld}
 use Rattle.bc_machine.specs.bc_ops.declared.instr.Op.{Op}
 use Rattle.bc_machine.specs.bc_ops.declared.instr.Op.TheVariants as ops
-use Rattle.bc_machine.specs.bc_ops.declared.instr.Instr.{Instr}
 use Rattle.bc_machine.specs.bc_ops.declared.instr.Instr.TheVariants as instrs
 use Rattle.bc_machine.specs.py_values.Shown.{PlainHeap}
 use Rattle.bc_machine.specs.py_primitives.Outcome.{Outcome, Stop}

@@ -1,5 +1,5 @@
 -- What the running instruction is paid for.
-use Rattle.std.proofs.Common.{◌≡◌, ℕ, suc, ◌<◌, ◌≤◌, List, [], ◌∷◌, map, drop, length, Option, Some, None, refl, sym, ap, subst, ◌∙◌, arith, slice_get}
+use Rattle.std.proofs.Common.{◌≡◌, ℕ, suc, ◌≤◌, List, [], ◌∷◌, map, drop, Option, Some, None, refl, sym, ap, subst, ◌∙◌, arith, slice_get}
 use Rattle.std.specs.Prelude.{min}
 use Rattle.mpy_base.specs.World.{Heap}
 use Rattle.mpy_base.specs.Val.{Val, PlainWorld}
@@ -31,7 +31,6 @@ use Rattle.vm_kept.specs.state_calls.vm_fetching.declared.instruction.Instructio
 use Rattle.vm_kept.specs.state_calls.vm_fetching.declared.instruction.Instruction.TheVariants as fetched
 use Rattle.vm_kept.specs.state_calls.vm_fetching.declared.operations.NumberOp.{NumberOp}
 use Rattle.vm_kept.specs.state_calls.vm_fetching.declared.operations.NumberOp.TheVariants as number_ops
-use Rattle.vm_kept.specs.state_calls.vm_fetching.declared.operations.PlainOp.TheVariants as plain_ops
 use Rattle.vm_kept.specs.state_calls.vm_fetching.Operations.{number_op}
 use Rattle.vm_kept.specs.state_calls.vm_fetching.Shows.{item_of_fetched}
 use Rattle.vm_starting.specs.frame_calls.declared.calling.Invocation.{Invocation}
