@@ -6,6 +6,7 @@ pub mod Fitting
 pub mod Framing
 pub mod Fronts
 pub mod Gathering
+pub mod Grouping
 pub mod Judging
 pub mod Keying
 pub mod Leading

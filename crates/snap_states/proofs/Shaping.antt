@@ -32,7 +32,7 @@ use Rattle.bc_labels.specs.Positions.{CodeList, Listed}
 use Rattle.bc_labels.proofs.Pieces.{one}
 use Rattle.snap_states.specs.declared.shapes.Shapes.{Shapes}
 use Rattle.snap_states.specs.Shapes.{StandsAt, IsShapeAt, LeadsOn, JumpsLeadOn}
-use Rattle.snap_states.specs.Frames.{AreShapes, assigned}
+use Rattle.snap_states.specs.Frames.{AreShapes, HasKinds, assigned}
 use Rattle.snap_states.specs.Fronts.{StartOnce}
 
 -- codes of a library
@@ -164,3 +164,30 @@ same_stand shelf m k at x a s =
     let holds = subst (λ b. Holds (flow_of b) s.a) both.0 s.holds in
     let least = subst (λ b. IsLeastOf (flow_of b) s.a) both.0 s.least in
     record { body = both.0; offsets = both.1; on = least_same s.a (assigned x) (least (assigned x) a.holds) (a.least s.a holds) }
+
+-- the kinds at an offset
+-- ======================
+
+pub kinds_stand : (shelf : Shelf) (m k at : ℕ) (x : Shapes) (kinds : List Kind) → AreShapes shelf m k x → HasKinds x at kinds → (s : StandsAt shelf m k at) × (s.shape.slots ≡ kinds)
+kinds_stand shelf m k at x kinds a h = (
+  record {
+    placed = a.placed;
+    there = a.there;
+    body = body_of x.code;
+    offsets = x.offsets.items;
+    says = a.says;
+    a = assigned x;
+    holds = a.holds;
+    least = a.least;
+    position = h.position;
+    here = h.here;
+    shape = h.shape;
+    is = h.is;
+  },
+  h.slots,
+)
+
+pub stand_kinds : (shelf : Shelf) (m k at : ℕ) (x : Shapes) → AreShapes shelf m k x → (s : StandsAt shelf m k at) → HasKinds x at s.shape.slots
+stand_kinds shelf m k at x a s =
+    let one = same_stand shelf m k at x a s in
+    record { position = s.position; here = subst (λ z. slice_get z s.position ≡ Some at) one.offsets s.here; shape = s.shape; is = one.on s.position s.shape s.is; slots = refl }
