@@ -25,12 +25,7 @@ pub fn titles_law(library: &Library, rows: &Rows<'_>)
 }
 
 /// The number of the name of a code that is there. In constant time.
-pub(crate) fn code_title(
-    library: &Library,
-    rows: &Rows<'_>,
-    module_number: u32,
-    code: u32,
-) -> u32
+pub(crate) fn code_title(library: &Library, rows: &Rows<'_>, module_number: u32, code: u32) -> u32
     requires rows { rows.now ≡ library.now }
     requires there { HasCode library.now module_number code }
     ensures { (title : ℕ → ℕ → ℕ) → AreTitles library.now title → result ≡ title module_number code }
