@@ -9,8 +9,8 @@ ghost use Rattle.vm_starting.specs.declared.opening.Vm.{Vm};
 ghost use Rattle.vm_machine.specs.Machine.{machine_of};
 ghost use Rattle.snap_laws.specs.Kept.{IsPaid};
 
-/// What is paid in a world (`IsPaid`) is paid in each with the same heap, whatever was printed and whatever its ports are: so a machine
-/// that has paid its steps in one world has in each.
+/// What is paid in a world (`IsPaid`) is paid in each with the same heap, whatever was printed and whatever its ports
+/// are: so a machine that has paid its steps in one world has in each.
 pub fn paid_anywhere_law()
     ensures states { (library : Library) (paid : ℕ) (frame : Frame) (frames : List Frame) (w v : PlainWorld) → w.heap ≡ v.heap
         → IsPaid library (Running paid frame frames w) → IsPaid library (Running paid frame frames v) }

@@ -11,8 +11,8 @@ use bc_library::Library;
 use vm_machine::{Rows, Vm, visits_due};
 use vm_starting::program_law;
 
-/// Whether no more steps are paid than the running instruction takes before it acts. It looks at no more values than steps are paid.
-/// Only the machine's place for operands is written.
+/// Whether no more steps are paid than the running instruction takes before it acts. It looks at no more values than
+/// steps are paid. Only the machine's place for operands is written.
 pub(crate) fn is_paid(vm: &mut Vm, library: &Library, rows: &Rows<'_>) -> bool
     requires vm { IsVm library.now vm.old }
     requires rows { rows.now ≡ library.now }
