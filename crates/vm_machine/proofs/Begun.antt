@@ -20,7 +20,7 @@ use Rattle.state_steps.specs.vm_frames.py_effects.Calling.{Keys, Function, Calle
 use Rattle.state_steps.specs.vm_frames.py_effects.Modules.{Made, make_function, has_items, make_module, prefixes, store_module}
 use Rattle.state_steps.specs.vm_frames.bc_machine.Library.{Name, Item, Plain, Names, Loads, Jumps, Unwinds, Code, Entry, Holds, Refused, Library, entry_in, code_at}
 use Rattle.state_steps.specs.vm_frames.bc_machine.State as states
-use Rattle.state_steps.specs.vm_frames.bc_machine.State.{Slot, Value, Null, Iter, KeptReturn, KeptJump, Role, Called, Imported, Frame, State, Running, Halted, Stuck, cut, abandoned, throw_in, throw_out, throw, fail, on_given, give, is_run, leave, unwind, resume}
+use Rattle.state_steps.specs.vm_frames.bc_machine.State.{Slot, Value, Null, Object, Iter, KeptReturn, KeptJump, Role, Main, Called, Imported, Frame, State, Running, Halted, Stuck, cut, abandoned, throw_in, throw_out, throw, fail, on_given, give, is_run, leave, unwind, resume}
 use Rattle.state_steps.specs.vm_frames.bc_machine.Parts.{has_depth, is_zero, first_absent}
 use Rattle.state_steps.specs.vm_frames.bc_machine.Operations.{TwoValued, operator_at, unary_at, values, kept_of}
 use Rattle.state_steps.specs.vm_frames.bc_machine.Step.{paying, does, gives, puts, entered, run_code, run_callee, made_function, make, given_by, make_with, begun, begin, import_absent, import, name_step, child, number_step, end_finally, pop_except, plain_step, next_item, jump_step, one_step, two_step, instr_step, item_step}

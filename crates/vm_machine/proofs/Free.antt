@@ -1,9 +1,9 @@
 -- Effects that make no visits.
-use Rattle.std.proofs.Common.{◌≡◌, ℕ, zero, suc, List, [], ◌∷◌, length, map, Bool, true, false, cond, Option, Some, None, refl, arith, if◌then◌else◌}
-use Rattle.std.specs.Prelude.{ℤ, Result, Ok, Err, codes, is_some, nat_lt, slice_index, slice_set}
+use Rattle.std.proofs.Common.{◌≡◌, ℕ, zero, suc, List, [], ◌∷◌, length, map, Bool, true, false, cond, Option, Some, None, refl, arith, slice_get, if◌then◌else◌}
+use Rattle.std.specs.Prelude.{ℤ, Result, Ok, Err, codes, is_some, nat_lt, slice_index, slice_set, option_and_then}
 use Rattle.std.specs.List.{remove}
 use Rattle.mpy_base.specs.declared.builtin.Builtin.{Builtin}
-use Rattle.mpy_base.specs.World.{Object, TextObject, TupleObject, ListObject, DictObject, MethodObject, ModuleObject, object, pairs_at, with_list, with_dict, with_names}
+use Rattle.mpy_base.specs.World.{Object, TextObject, TupleObject, ListObject, DictObject, FunctionObject, MethodObject, ModuleObject, object, pairs_at, with_list, with_dict, with_names}
 use Rattle.mpy_base.specs.Weights.{used, does_fit, cells_of, bytes_of, with_made, room_for, dict_growth, with_pairs}
 use Rattle.mpy_base.specs.Val.{Val, Nil, Str, At, PlainWorld}
 use Rattle.state_steps.specs.vm_frames.py_effects.py_values.Shown.{PlainHeap, Shown, Number, Text, Tuple, Items, Pairs, Range, shown}
@@ -14,7 +14,7 @@ use Rattle.state_steps.specs.vm_frames.py_effects.py_primitives.Builtins.{global
 use Rattle.state_steps.specs.vm_frames.py_effects.py_primitives.Faults.{Fault, UnsupportedOne, UnpacksMore, UnpacksFewer}
 use Rattle.state_steps.specs.vm_frames.py_effects.py_primitives.Outcome.{Outcome, Stop, gives, raises, is_full, go_on_with, followed_by, making, making_text, making_texts, making_tuple, making_list}
 use Rattle.state_steps.specs.vm_frames.py_effects.py_primitives.Iterables.{items_in, over_items, kept_items, shown_item, item_of, length_of, place_at, use_iter}
-use Rattle.state_steps.specs.vm_frames.py_effects.py_primitives.Operators.{UnaryOperator, Plus, Minus, Invert, with_key_of, gives_number, unary_answer, unary_shown}
+use Rattle.state_steps.specs.vm_frames.py_effects.py_primitives.Operators.{UnaryOperator, Plus, Minus, Invert, with_key_of, gives_number, unary_answer, unary_shown, unary}
 use Rattle.state_steps.specs.vm_frames.py_effects.py_primitives.Uses.{at_found, at_shown, at_key, of_key, shown_at, get_item, put_pair, set_shown, set_item, delete_shown, delete_item, Attribute, Found, Method, Absent, attribute, gives_attribute, get_attr, set_in, set_attr, unpack_items, unpack}
 use Rattle.state_steps.specs.vm_frames.py_effects.Effect.{Effect, number_of}
 use Rattle.state_steps.specs.vm_frames.py_effects.Effect as effects
