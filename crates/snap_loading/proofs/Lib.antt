@@ -1,6 +1,7 @@
 mod Bridging
 pub mod Counted
 pub mod Counting
+pub mod Entitled
 mod Filing
 pub mod Filled
 pub mod Finding
@@ -13,15 +14,20 @@ pub mod Matching
 pub mod Mixing
 pub mod Numbered
 pub mod Numbering
-mod Paying
+mod PaidToo
 pub mod Putting
 mod Registering
 mod Resuming
 mod Returning
 mod Saming
 mod Saving
+mod Settled
 mod Showing
 mod Slotting
+mod Solely
 mod Standing
 mod Stated
 pub mod Valuing
+pub mod Besides
+pub mod Stacking
+mod Wherever

@@ -1,3 +1,4 @@
+pub mod Coded
 pub mod Given
 pub mod Looked
 pub mod Mixed
@@ -5,3 +6,5 @@ pub mod Resumed
 pub mod Same
 pub mod Saved
 pub mod Shells
+pub mod Framing
+pub mod Texts

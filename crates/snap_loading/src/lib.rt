@@ -1,16 +1,27 @@
 //! The machine of a snapshot.
 #![tactic(auto)]
 
+mod anywhere;
+mod filling;
+mod frames;
 mod lookup;
 mod names;
+mod one_state;
+mod paying;
 mod resumed;
 mod safe;
 mod same;
 mod saved;
 mod shown;
+mod strs;
+mod titles;
+mod values;
 
+pub use anywhere::paid_anywhere_law;
+pub use one_state::one_state_law;
 pub use resumed::{paid_too_law, resumes_law};
 pub use safe::{safe_law, shells_law};
 pub use same::{files_law, same_law, states_same_law};
 pub use saved::saved_law;
 pub use shown::shown_law;
+pub use titles::titles_law;

@@ -1,4 +1,4 @@
-use Rattle.snap_loading.proofs.Paying.{paid_as}
+use Rattle.snap_loading.proofs.PaidToo.{paid_as}
 use Rattle.snap_loading.proofs.resumed.paid_too_law.Goals as goal
 
 pub returns : goal.returns
