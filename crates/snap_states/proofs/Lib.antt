@@ -1,5 +1,6 @@
 mod Examples
 pub mod Calling
+pub mod Causing
 pub mod Filling
 pub mod Finding
 pub mod Fitting
@@ -11,6 +12,7 @@ pub mod Judging
 pub mod Keying
 pub mod Leading
 pub mod Looping
+pub mod Ordering
 pub mod Owning
 pub mod Rooming
 pub mod Seeing

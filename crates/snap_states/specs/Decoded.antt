@@ -137,6 +137,24 @@ abbrev pub name_in_part : Option ObjectPart → List ℕ
 name_in_part (Some (objects.Module name names)) = name
 name_in_part _ = []
 
+-- slots
+-- =====
+
+-- the lowest slots of an iterator, as many as that, the topmost first
+abbrev pub iterator_of : (count : ℕ) → Value → (at : ℕ) → List Slot
+iterator_of zero over at = []
+iterator_of (suc part) over at = stacked.Iter over at part ∷ iterator_of part over at
+
+-- a value or nothing in a slot of this kind: the second slot of a method's look-up has its own form
+abbrev pub filled : Option SlotKind → Value → Slot
+filled (Some kinds.Method) v = stacked.Object (Some v)
+filled _ v = stacked.Value v
+
+-- nothing in a slot of this kind
+abbrev pub vacant : Option SlotKind → Slot
+vacant (Some kinds.Method) = stacked.Object None
+vacant _ = stacked.Null
+
 module _ (shelf : Shelf) (s : Snapshot) where
   -- a value
   abbrev pub value_of : ValuePart → Value
@@ -211,21 +229,6 @@ module _ (shelf : Shelf) (s : Snapshot) where
   abbrev pub local_of : SlotPart → Option Value
   local_of (slots.Value v) = Some (value_of v)
   local_of _ = None
-
-  -- the lowest slots of an iterator, as many as that, the topmost first
-  abbrev pub iterator_of : (count : ℕ) → Value → (at : ℕ) → List Slot
-  iterator_of zero over at = []
-  iterator_of (suc part) over at = stacked.Iter over at part ∷ iterator_of part over at
-
-  -- a value or nothing in a slot of this kind: the second slot of a method's look-up has its own form
-  abbrev pub filled : Option SlotKind → Value → Slot
-  filled (Some kinds.Method) v = stacked.Object (Some v)
-  filled _ v = stacked.Value v
-
-  -- nothing in a slot of this kind
-  abbrev pub vacant : Option SlotKind → Slot
-  vacant (Some kinds.Method) = stacked.Object None
-  vacant _ = stacked.Null
 
   -- the slots of a part, the topmost first, where the topmost is of this kind
   abbrev pub slots_of : Option SlotKind → SlotPart → List Slot

@@ -11,7 +11,7 @@ use Rattle.bc_library.specs.bc_shapes.declared.shape.Entry.{Entry}
 use Rattle.bc_library.specs.bc_shapes.Shape.{At}
 use Rattle.bc_library.specs.bc_flow.Action.{action}
 use Rattle.bc_library.specs.bc_flow.Machine.{Stack}
-use Rattle.bc_library.specs.bc_flow.Verified.{Assigned, Holds, IsLeastOf, at}
+use Rattle.bc_library.specs.bc_flow.Verified.{Assigned, Holds, IsLeastOf, Reached, at}
 use Rattle.bc_library.specs.bc_flow.Views.{table_of}
 use Rattle.bc_library.specs.bc_verify.Body.{Says, body_of, flow_of}
 use Rattle.bc_library.specs.Shelf.{Shelf}
@@ -54,6 +54,7 @@ pub record AreShapes (shelf : Shelf) (m code : ℕ) (x : Shapes) : Type 0 where
   pub says : Says placed.bytes (body_of x.code) x.offsets.items
   pub holds : Holds (flow_of (body_of x.code)) (assigned x)
   pub least : IsLeastOf (flow_of (body_of x.code)) (assigned x)
+  pub reached : Reached (flow_of (body_of x.code)) (table_of x.states.items)
 
 -- the slots of the shape at an offset have these kinds, the topmost first
 pub record HasKinds (x : Shapes) (offset : ℕ) (kinds : List Kind) : Type 0 where

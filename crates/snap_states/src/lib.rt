@@ -21,6 +21,7 @@ mod values;
 
 pub use frames::are_fine_frames;
 pub use known::Known;
+pub use naming::{builtin_called, kind_called};
 pub use objects::are_fine_objects;
 pub use registered::are_registered_parts;
 pub use room::has_room;

@@ -2,7 +2,8 @@
 
 ghost use Rattle.std.specs.Prelude.{◌≡◌, ℕ, List, None, IfOk, IfSome, IfNone};
 ghost use Rattle.bc_library.specs.bc_shapes.declared.kinds.Kind.{Kind as KindOf};
-ghost use Rattle.snap_states.specs.Shapes.{StandsAt};
+ghost use Rattle.bc_library.specs.bc_verify.Body.{flow_of};
+ghost use Rattle.snap_states.specs.Shapes.{IsOrderly, StandsAt};
 ghost use Rattle.snap_states.specs.Fronts.{StartOnce};
 ghost use Rattle.bc_rows.specs.Codes.{code_numbered};
 ghost use Rattle.bc_rows.specs.Rows.{IsRow};
@@ -14,6 +15,7 @@ use bc_flow::{Code, State, flow, items_of};
 use bc_library::{Library, modules_law};
 use bc_rows::{Row, Rows};
 use bc_shapes::{Kind, NoMemory};
+use snap_laws::frames_law;
 use std::alloc::Global;
 
 /// A code, the offsets at which its instructions start, and what holds of each of them: the least that the flow allows.
@@ -83,7 +85,8 @@ fn kinds_in(alloc: Global, shapes: &Shapes, at: u32) -> Result<Option<Vec<Kind>>
     }
 }
 
-/// The kinds of the slots, the topmost first, at the instruction of a code that starts at the offset, if it is reachable.
+/// The kinds of the slots, the topmost first, at the instruction of a code that starts at the offset, if it is reachable. In a time
+/// that grows with the code, which is walked anew.
 pub fn kinds_at(
     alloc: Global,
     library: &Library,
@@ -94,8 +97,11 @@ pub fn kinds_at(
 ) -> Result<Option<Vec<Kind>>, NoMemory>
     requires { rows.now ≡ library.now }
     ensures some { IfOk result (λ o. IfSome o (λ kinds. (s : StandsAt library.now module_number code at) × (s.shape.slots ≡ kinds.items))) }
+    ensures orderly { IfOk result (λ o. IfSome o (λ _. (s : StandsAt library.now module_number code at)
+        → IsOrderly (flow_of s.body) s.shape)) }
     ensures none { IfOk result (λ o. IfNone o (StandsAt library.now module_number code at → ⊥)) }
 {
+    frames_law();
     match shapes_of(alloc, library, rows, module_number, code)? {
         None => Ok(None),
         Some(shapes) => {
