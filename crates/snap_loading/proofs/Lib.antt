@@ -27,3 +27,4 @@ mod Stated
 pub mod Valuing
 pub mod Besides
 pub mod Stacking
+mod Placing
