@@ -1,13 +1,11 @@
 -- A frame of a state has its place in a machine of the library, and is the call that stands there.
-use Rattle.std.proofs.Common.{◌≡◌, ◌⊎◌, inl, inr, ℕ, zero, suc, ◌+◌, ◌-◌, ◌<◌, ◌≤◌, Bool, true, List, [], ◌∷◌, ◌++◌, length, map, take, drop, reverse, replicate, Option, Some, None, slice_get, refl, sym, ap, ap₂, ◌∙◌, subst, arith, All, append_assoc, length-append, length-drop}
+use Rattle.std.proofs.Common.{◌≡◌, ◌⊎◌, inl, inr, ℕ, zero, suc, ◌+◌, ◌-◌, ◌<◌, ◌≤◌, Bool, true, List, [], ◌∷◌, ◌++◌, length, map, take, drop, reverse, replicate, Option, Some, None, slice_get, refl, sym, ap, ◌∙◌, subst, arith, All, append_assoc, length-append, length-drop}
 use Rattle.std.specs.Prelude.{option_and_then}
 use Rattle.std.proofs.lemmas.Bool.{and_parts, cases_lt, leb-true}
-use Rattle.std.proofs.lemmas.List.{append-nil, length-replicate, length-reverse, reverse-append, reverse-reverse}
-use Rattle.std.proofs.lemmas.List.Elements.{All-nil, All-cons, All-head, All-tail}
-use Rattle.arena_heap.specs.declared.value.Value.{Value}
+use Rattle.std.proofs.lemmas.List.{append-nil, length-reverse, reverse-reverse}
+use Rattle.std.proofs.lemmas.List.Elements.{All-nil, All-cons}
 use Rattle.arena_heap.specs.declared.value.DictNo.{DictNo}
 use Rattle.bc_flow.specs.bc_shapes.declared.kinds.Kind.{Kind as SlotKind}
-use Rattle.bc_flow.specs.bc_shapes.declared.kinds.Kind.TheVariants as kinds
 use Rattle.bc_flow.specs.bc_shapes.declared.shape.Entry.{Entry as FlowEntry}
 use Rattle.bc_flow.specs.bc_shapes.Shape.{At}
 use Rattle.bc_flow.specs.Action.{Action}
@@ -15,7 +13,7 @@ use Rattle.bc_flow.specs.Code as flow
 use Rattle.bc_flow.specs.Edges.{room}
 use Rattle.bc_flow.specs.Machine.{Slot as FlowSlot, KeptJump, Stack, cut}
 use Rattle.bc_flow.specs.Verified.{Assigned}
-use Rattle.bc_flow.proofs.Sound.{Stands, empty, more, jump, stands-length, Fits}
+use Rattle.bc_flow.proofs.Sound.{Stands, more, jump, stands-length, Fits}
 use Rattle.bc_library.specs.bc_verify.bc_prelude.declared.prelude.Prelude.{Prelude}
 use Rattle.bc_library.specs.bc_verify.bc_prelude.Prelude.{Begins}
 use Rattle.bc_library.specs.bc_verify.Body.{flow_of}
@@ -28,7 +26,7 @@ use Rattle.vm_starting.specs.vm_states.bc_rows.Codes.{code_numbered}
 use Rattle.vm_frames.specs.declared.slot.Entry.{Entry}
 use Rattle.vm_frames.specs.declared.slot.Role.{Role}
 use Rattle.vm_frames.specs.declared.slot.Slot.{Slot}
-use Rattle.vm_frames.specs.Calls.{Call, Calls, OfRunning, on_running}
+use Rattle.vm_frames.specs.Calls.{Call, Calls, on_running}
 use Rattle.snap_grammar.specs.declared.parts.EntryPart.{EntryPart}
 use Rattle.snap_grammar.specs.declared.parts.FramePart.{FramePart}
 use Rattle.snap_grammar.specs.declared.parts.RolePart.{RolePart}
@@ -39,13 +37,13 @@ use Rattle.snap_grammar.specs.declared.parts.Snapshot.{Snapshot}
 use Rattle.snap_grammar.specs.declared.parts.ValuePart.TheVariants as parts
 use Rattle.snap_states.specs.Parts.{cell_of}
 use Rattle.snap_states.specs.Shapes.{HasHeight, LieOnEntries, IsOrderly, StandsAt, LeadsOn, JumpsLeadOn}
-use Rattle.snap_states.specs.States.{IsEntryAt, AreEntriesAt, ShowsParts, IsFineFrame, AreFineFrames}
+use Rattle.snap_states.specs.States.{AreEntriesAt, ShowsParts, IsFineFrame, AreFineFrames}
 use Rattle.snap_states.specs.Decoded.{local_of, handler_of, role_of, stack_of, call_of, IsCallOf, AreCallsOf}
 use Rattle.snap_states.proofs.Causing.{lie_drop}
 use Rattle.snap_loading.specs.Framing.{FitsSlot, IsLow, HasPlace, HasRoomFor, slots_in}
 use Rattle.snap_loading.proofs.Returning.{no_tables}
 use Rattle.snap_loading.proofs.Showing.{stack_long}
-use Rattle.snap_loading.proofs.Stacking.{with_slots, with_entries, all_get, back_next, count_back, parts_long}
+use Rattle.snap_loading.proofs.Stacking.{with_slots, with_entries, back_next, count_back, parts_long}
 use Rattle.snap_loading.proofs.Standing.{all_reverse, shape_once}
 
 -- kept jumps

@@ -17,13 +17,13 @@ ghost use Rattle.snap_loading.specs.Looked.{IsLookup};
 use crate::lookup::{Lookup, cell_of};
 use crate::values::value_of;
 use arena_heap::{DictNo, ExcNo, ModuleNo, Value};
-use vm_machine::Rows;
 use bc_shapes::Kind;
 use mpy_base::NoMemory;
 use snap_grammar::{EntryPart, FramePart, RolePart, SlotPart};
 use snap_states::kinds_at;
 use std::alloc::Global;
 use vm_frames::{Entry, Frames, Role, Slot};
+use vm_machine::Rows;
 
 /// What the end of a frame does.
 fn role_of(lookup: &Lookup, role: &RolePart) -> Role

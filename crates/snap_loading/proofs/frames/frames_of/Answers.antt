@@ -1,6 +1,4 @@
-use Rattle.std.proofs.Common.{◌≡◌, ℕ, ◌+◌, refl, sym, ap, ◌∙◌, subst}
-use Rattle.bc_library.specs.Greatest.{IsGreatestIn, ShelfHas}
-use Rattle.vm_frames.specs.Calls.{Calls}
+use Rattle.std.proofs.Common.{refl, sym, subst}
 use Rattle.snap_loading.specs.Framing.{HasRoomFor}
 use Rattle.snap_loading.proofs.frames.frames_of.Goals as goal
 

@@ -1,4 +1,4 @@
-use Rattle.std.proofs.Common.{◌≡◌, ℕ, suc, ◌+◌, ◌<◌, length, refl, sym, ap, ◌∙◌, subst, arith}
+use Rattle.std.proofs.Common.{◌≡◌, suc, ◌+◌, ◌<◌, length, ap, ◌∙◌, arith}
 use Rattle.vm_frames.specs.declared.slot.Slot.TheVariants as stacked
 use Rattle.vm_frames.specs.Calls.{on_running}
 use Rattle.snap_states.specs.Decoded.{iterator_of}

@@ -1,5 +1,4 @@
-use Rattle.std.proofs.Common.{◌≡◌, ℕ, ◌+◌, ◌≤◌, [], ◌∷◌, length, sym, ap, ◌∙◌, subst}
-use Rattle.vm_frames.specs.declared.slot.Slot.{Slot}
+use Rattle.std.proofs.Common.{ℕ, ◌+◌, ◌≤◌, [], ◌∷◌, length, sym, ap, ◌∙◌, subst}
 use Rattle.vm_frames.specs.declared.slot.Slot.TheVariants as stacked
 use Rattle.vm_frames.specs.Calls.{OfRunning, on_running}
 use Rattle.snap_states.specs.Decoded.{filled, iterator_of, slots_of, value_of}

@@ -1,6 +1,5 @@
-use Rattle.std.proofs.Common.{◌≡◌, ℕ, suc, ◌+◌, ◌-◌, ◌<◌, ◌≤◌, [], ◌∷◌, ◌++◌, length, take, drop, reverse, slice_get, Some, refl, sym, ap, ◌∙◌, subst, arith}
-use Rattle.vm_frames.specs.Calls.{OfRunning, on_running}
-use Rattle.snap_grammar.specs.declared.parts.SlotPart.{SlotPart}
+use Rattle.std.proofs.Common.{◌≡◌, suc, ◌+◌, ◌-◌, ◌++◌, length, take, drop, reverse, sym, ap, ◌∙◌, arith}
+use Rattle.vm_frames.specs.Calls.{on_running}
 use Rattle.snap_states.specs.Decoded.{slots_of, stack_of}
 use Rattle.snap_loading.specs.Framing.{FitsSlot, count_of, slots_in}
 use Rattle.snap_loading.proofs.Stacking.{with_slots, no_change, more_slots, slots_room, take_none, take_every, back_next, all_get, count_next, count_within, part_long, parts_long, count_back, stack_next}

@@ -1,10 +1,10 @@
-use Rattle.std.proofs.Common.{◌≡◌, ℕ, zero, suc, ◌+◌, ◌-◌, ◌<◌, ◌≤◌, [], ◌∷◌, ◌++◌, length, map, drop, reverse, replicate, slice_get, Some, None, refl, sym, ap, ◌∙◌, subst, arith}
+use Rattle.std.proofs.Common.{◌≡◌, ◌+◌, ◌-◌, ◌≤◌, length, map, drop, reverse, slice_get, Some, None, sym, ap, ◌∙◌, subst, arith}
 use Rattle.std.proofs.lemmas.List.{length-replicate}
 use Rattle.arena_heap.specs.declared.value.DictNo.{DictNo}
-use Rattle.vm_frames.specs.Calls.{Call, Calls, OfRunning, on_running}
+use Rattle.vm_frames.specs.Calls.{Calls, OfRunning, on_running}
 use Rattle.snap_states.specs.Decoded.{local_of, handler_of, stack_of}
 use Rattle.snap_loading.specs.Framing.{IsLow, slots_in}
-use Rattle.snap_loading.proofs.Placing.{begun, call_put}
+use Rattle.snap_loading.proofs.Placing.{call_put}
 use Rattle.snap_loading.proofs.Stacking.{with_slots, with_entries, all_get}
 use Rattle.snap_loading.proofs.frames.put_frame.Goals as goal
 

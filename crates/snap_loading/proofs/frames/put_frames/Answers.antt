@@ -1,10 +1,9 @@
-use Rattle.std.proofs.Common.{◌≡◌, ℕ, suc, ◌+◌, ◌<◌, ◌≤◌, [], ◌∷◌, length, take, reverse, slice_get, Option, Some, None, refl, sym, ap, ◌∙◌, subst, arith}
+use Rattle.std.proofs.Common.{◌≡◌, suc, ◌+◌, [], ◌∷◌, length, take, reverse, slice_get, Option, Some, None, refl, sym, ap, ◌∙◌, subst, arith}
 use Rattle.std.proofs.lemmas.List.{length-reverse}
-use Rattle.vm_frames.specs.Calls.{Call, Calls}
+use Rattle.vm_frames.specs.Calls.{Calls}
 use Rattle.snap_grammar.specs.declared.parts.RolePart.{RolePart}
 use Rattle.snap_states.specs.Decoded.{AreCallsOf}
 use Rattle.snap_states.specs.States.{IsFineFrame}
-use Rattle.snap_loading.specs.Framing.{HasRoomFor}
 use Rattle.snap_loading.proofs.Placing.{all_forward, each_fine, calls_long, calls_next, same_room}
 use Rattle.snap_loading.proofs.Stacking.{all_get, take_none, take_every, take_count}
 use Rattle.snap_loading.proofs.frames.put_frames.Goals as goal

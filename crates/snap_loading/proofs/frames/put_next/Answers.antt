@@ -1,4 +1,4 @@
-use Rattle.std.proofs.Common.{◌≡◌, length, drop, sym, ◌∙◌}
+use Rattle.std.proofs.Common.{◌≡◌, drop, sym, ◌∙◌}
 use Rattle.snap_states.specs.Decoded.{call_of}
 use Rattle.snap_states.specs.Shapes.{StandsAt}
 use Rattle.snap_loading.proofs.Placing.{missing, missing_is, is_call, has_place}
