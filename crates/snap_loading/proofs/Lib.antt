@@ -31,3 +31,9 @@ pub mod Valuing
 pub mod Besides
 pub mod Stacking
 mod Wherever
+mod Placing
+pub mod Emptied
+mod Judged
+mod Laying
+pub mod Readied
+mod Roomy

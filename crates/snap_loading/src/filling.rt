@@ -116,7 +116,7 @@ fn fill_one(arena: &mut Arena, lookup: &Lookup, number: u32, object: &ObjectPart
 }
 
 /// The object of a number.
-fn object_at(objects: &[ObjectPart], number: usize) -> &ObjectPart
+pub(crate) fn object_at(objects: &[ObjectPart], number: usize) -> &ObjectPart
     requires { number < length objects.now }
     ensures { slice_get objects.now number ≡ Some result.now }
 {

@@ -1,20 +1,29 @@
-//! The slots, entries and locals of a snapshot's frames.
+//! The frames of a snapshot.
 
-ghost use Rattle.std.specs.Prelude.{◌≡◌, ◌++◌, ◌+◌, ◌<◌, ◌≤◌, ◌^◌, ℕ, All, length, map, reverse, replicate, slice_get, Some, None};
+ghost use Rattle.std.specs.Prelude.{◌≡◌, ◌∷◌, ◌++◌, ◌+◌, ◌<◌, ◌≤◌, ◌^◌, ℕ, All, [], length, map, drop, reverse, slice_get, Option, Some, None, IfOk, OnOk};
 ghost use Rattle.std.specs.Option.{option_map};
-ghost use Rattle.vm_frames.specs.Calls.{OfRunning, on_running};
-ghost use Rattle.snap_grammar.specs.declared.parts.EntryPart.{EntryPart};
+ghost use Rattle.mpy_base.specs.declared.limits.TheConstants.{MAX_CALLS};
+ghost use Rattle.bc_library.specs.Greatest.{IsGreatestIn, ShelfHas};
+ghost use Rattle.vm_frames.specs.Calls.{Call, OfRunning, on_running};
+ghost use Rattle.snap_grammar.specs.declared.parts.EntryPart.{EntryPart as EntryOf};
+ghost use Rattle.snap_grammar.specs.declared.parts.RolePart.{RolePart as RoleOf};
 ghost use Rattle.snap_states.specs.Decoded as decoded;
-ghost use Rattle.snap_states.specs.Parts as decoded_cell;
-ghost use Rattle.snap_loading.specs.Framing.{FitsSlot};
+ghost use Rattle.snap_states.specs.Decoded.{AreCallsOf, IsCallOf, call_of, stack_of};
+ghost use Rattle.snap_states.specs.Parts as parts;
+ghost use Rattle.snap_states.specs.States.{IsFineFrame, IsShaped};
+ghost use Rattle.snap_loading.specs.Framing.{FitsSlot, HasPlace, HasRoomFor, count_of, slots_in};
 ghost use Rattle.snap_loading.specs.Looked.{IsLookup};
 
 use crate::lookup::{Lookup, cell_of};
 use crate::values::value_of;
-use arena_heap::{ExcNo, ModuleNo, Value};
+use arena_heap::{DictNo, ExcNo, ModuleNo, Value};
 use bc_shapes::Kind;
-use snap_grammar::{EntryPart, RolePart, SlotPart};
+use mpy_base::NoMemory;
+use snap_grammar::{EntryPart, FramePart, RolePart, SlotPart};
+use snap_states::kinds_at;
+use std::alloc::Global;
 use vm_frames::{Entry, Frames, Role, Slot};
+use vm_machine::Rows;
 
 /// What the end of a frame does.
 fn role_of(lookup: &Lookup, role: &RolePart) -> Role
@@ -34,7 +43,7 @@ fn role_of(lookup: &Lookup, role: &RolePart) -> Role
 /// The exception that an entry keeps.
 fn kept_of(lookup: &Lookup, kept: Option<u32>) -> Option<ExcNo>
     requires { IsLookup lookup.now }
-    ensures { result ≡ option_map (λ number. record { cell = decoded_cell.cell_of lookup.now.snapshot.now.objects number }) kept }
+    ensures { result ≡ option_map (λ number. record { cell = parts.cell_of lookup.now.snapshot.now.objects number }) kept }
 {
     match kept {
         Some(number) => {
@@ -114,10 +123,12 @@ fn push_part(frames: &mut Frames, lookup: &Lookup, kind: Option<Kind>, part: &Sl
     match part {
         SlotPart::Value(v) => {
             let value = value_of(lookup, v);
-            frames.push(filled(kind, value));
+            let slot = filled(kind, value);
+            frames.push(slot);
         }
         SlotPart::Empty => {
-            frames.push(vacant(kind));
+            let slot = vacant(kind);
+            frames.push(slot);
         }
         SlotPart::Iterator { over, at } => {
             let value = value_of(lookup, over);
@@ -145,6 +156,68 @@ fn push_part(frames: &mut Frames, lookup: &Lookup, kind: Option<Kind>, part: &Sl
     }
 }
 
+/// How many slots a part is.
+fn slot_count(part: &SlotPart) -> usize
+    ensures { result ≡ count_of part.now }
+{
+    match part {
+        SlotPart::Iterator { .. } => 4,
+        SlotPart::Left { slots, .. } => *slots as usize,
+        SlotPart::Value(_) | SlotPart::Empty | SlotPart::Return(_) | SlotPart::Jump { .. } => 1,
+    }
+}
+
+/// The part at a place.
+fn part_at(parts: &[SlotPart], at: usize) -> &SlotPart
+    requires { at < length parts.now }
+    ensures { slice_get parts.now at ≡ Some result.now }
+{
+    &parts[at]
+}
+
+/// The kind at a place, if there is one.
+fn kind_in(kinds: &[Kind], at: usize) -> Option<Kind>
+    ensures { result ≡ slice_get kinds.now at }
+{
+    kinds.get(at).copied()
+}
+
+/// The slots of a frame, from the lowest on: the lowest of the slots of these kinds, of which the topmost stands first.
+fn push_slots(frames: &mut Frames, lookup: &Lookup, kinds: &[Kind], parts: &[SlotPart])
+    requires lookup { IsLookup lookup.now }
+    requires fit { All FitsSlot parts.now }
+    requires among { slots_in parts.now ≤ length kinds.now }
+    requires room { OfRunning (λ c. length c.slots + slots_in parts.now ≤ frames.old.slot_room) frames.old.calls }
+    ensures { (taken : ℕ) → taken + slots_in parts.now ≡ length kinds.now
+        → frames.new ≡ on_running (λ c. record c {
+          slots = stack_of lookup.now.library.now lookup.now.snapshot.now (drop taken kinds.now) (reverse parts.now) ++ c.slots;
+        }) frames.old }
+{
+    let mut left = kinds.len();
+    for at in 0..parts.len() {
+        let part = part_at(parts, at);
+        left -= slot_count(part);
+        let kind = kind_in(kinds, left);
+        push_part(frames, lookup, kind, part);
+    }
+}
+
+/// The locals of the running call, which has as many.
+fn set_locals(frames: &mut Frames, lookup: &Lookup, parts: &[SlotPart])
+    requires lookup { IsLookup lookup.now }
+    requires as_many { OfRunning (λ c. length c.locals ≡ length parts.now) frames.old.calls }
+    requires few { length parts.now < 2 ^ 32 }
+    ensures { frames.new ≡ on_running (λ c. record c {
+      locals = map (decoded.local_of lookup.now.library.now lookup.now.snapshot.now) parts.now;
+    }) frames.old }
+{
+    for at in 0..parts.len() {
+        let part = part_at(parts, at);
+        let v = local_of(lookup, part);
+        frames.set_local(at as u32, v);
+    }
+}
+
 /// The entry at a place.
 fn entry_at(parts: &[EntryPart], at: usize) -> &EntryPart
     requires { at < length parts.now }
@@ -157,12 +230,126 @@ fn entry_at(parts: &[EntryPart], at: usize) -> &EntryPart
 fn add_entries(frames: &mut Frames, lookup: &Lookup, parts: &[EntryPart])
     requires lookup { IsLookup lookup.now }
     requires room { OfRunning (λ c. length c.entries + length parts.now ≤ frames.old.entry_room) frames.old.calls }
-    requires low { (at : ℕ) (part : EntryPart) → slice_get parts.now at ≡ Some part → part.height < frames.old.slot_room }
+    requires low { (at : ℕ) (part : EntryOf) → slice_get parts.now at ≡ Some part → part.height < frames.old.slot_room }
     ensures { frames.new ≡ on_running (λ c. record c { entries = map (decoded.handler_of lookup.now.library.now lookup.now.snapshot.now) (reverse parts.now) ++ c.entries }) frames.old }
 {
     for at in 0..parts.len() {
         let part = entry_at(parts, at);
         let entry = handler_of(lookup, part);
         frames.add_entry(entry);
+    }
+}
+
+/// A call that stands where the frame does, in code whose slots there are of these kinds, the topmost first.
+fn put_frame(frames: &mut Frames, lookup: &Lookup, kinds: &[Kind], frame: &FramePart)
+    requires lookup { IsLookup lookup.now }
+    requires shallow { length frames.old.calls < MAX_CALLS }
+    requires place { HasPlace frames.old.slot_room frames.old.entry_room (length kinds.now) frame.now }
+    ensures { (taken : ℕ) → taken + slots_in frame.now.slots ≡ length kinds.now → frames.new ≡ record frames.old {
+      calls = call_of lookup.now.library.now lookup.now.snapshot.now (drop taken kinds.now) frame.now ∷ frames.old.calls;
+    } }
+{
+    frames.room_law();
+    let cell = cell_of(lookup, frame.names);
+    let role = role_of(lookup, &frame.role);
+    let locals = frame.locals.as_slice();
+    frames.push_call(
+        frame.module_number,
+        frame.code,
+        DictNo { cell },
+        role,
+        locals.len() as u32,
+    );
+    frames.set_offset(frame.at);
+    set_locals(frames, lookup, locals);
+    push_slots(frames, lookup, kinds, frame.slots.as_slice());
+    add_entries(frames, lookup, frame.entries.as_slice());
+}
+
+/// A call that the frame stands for.
+fn put_next(
+    alloc: Global,
+    frames: &mut Frames,
+    lookup: &Lookup,
+    rows: &Rows<'_>,
+    frame: &FramePart,
+) -> Result<(), NoMemory>
+    requires lookup { IsLookup lookup.now }
+    requires rows { rows.now ≡ lookup.now.library.now }
+    requires room { HasRoomFor lookup.now.library.now frames.old }
+    requires shallow { length frames.old.calls < MAX_CALLS }
+    requires fine { (above : Option RoleOf) × IsFineFrame lookup.now.library.now lookup.now.snapshot.now above frame.now }
+    ensures { OnOk result ((c : Call) × IsCallOf lookup.now.library.now lookup.now.snapshot.now frame.now c
+        × (frames.new ≡ record frames.old { calls = c ∷ frames.old.calls })) }
+{
+    match kinds_at(
+        alloc,
+        lookup.library,
+        rows,
+        frame.module_number,
+        frame.code,
+        frame.at,
+    )? {
+        None => unreachable!(),
+        Some(kinds) => {
+            put_frame(frames, lookup, &kinds, frame);
+            Ok(())
+        }
+    }
+}
+
+/// The frame at a place.
+fn frame_at(parts: &[FramePart], at: usize) -> &FramePart
+    requires { at < length parts.now }
+    ensures { slice_get parts.now at ≡ Some result.now }
+{
+    &parts[at]
+}
+
+/// The calls that the frames stand for, from the outermost on.
+fn put_frames(
+    alloc: Global,
+    frames: &mut Frames,
+    lookup: &Lookup,
+    rows: &Rows<'_>,
+) -> Result<(), NoMemory>
+    requires lookup { IsLookup lookup.now }
+    requires rows { rows.now ≡ lookup.now.library.now }
+    requires shaped { IsShaped lookup.now.library.now lookup.now.snapshot.now }
+    requires room { HasRoomFor lookup.now.library.now frames.old }
+    requires none { frames.old.calls ≡ [] }
+    ensures calls { OnOk result (AreCallsOf lookup.now.library.now lookup.now.snapshot.now (reverse lookup.now.snapshot.now.frames) frames.new.calls) }
+    ensures rooms { OnOk result (frames.new ≡ record frames.old { calls = frames.new.calls }) }
+{
+    let parts = lookup.snapshot.frames.as_slice();
+    for at in 0..parts.len() {
+        let frame = frame_at(parts, at);
+        put_next(alloc, frames, lookup, rows, frame)?;
+    }
+    Ok(())
+}
+
+/// The calls that a snapshot stands for, with a slot more, and as many entries, in each as a code of the library takes at most. In a
+/// time that grows with the frames and, for each, with its code. It takes all memory of the calls here.
+pub(crate) fn frames_of(
+    alloc: Global,
+    lookup: &Lookup,
+    rows: &Rows<'_>,
+    slots: u32,
+    entries: u32,
+) -> Result<Frames, NoMemory>
+    requires lookup { IsLookup lookup.now }
+    requires rows { rows.now ≡ lookup.now.library.now }
+    requires shaped { IsShaped lookup.now.library.now lookup.now.snapshot.now }
+    requires greatest { IsGreatestIn (ShelfHas lookup.now.library.now) slots entries }
+    requires few { slots ≤ 4096 }
+    ensures calls { IfOk result (λ frames. AreCallsOf lookup.now.library.now lookup.now.snapshot.now (reverse lookup.now.snapshot.now.frames) frames.calls) }
+    ensures slot_room { IfOk result (λ frames. frames.slot_room ≡ slots + 1) }
+    ensures entry_room { IfOk result (λ frames. frames.entry_room ≡ entries) }
+{
+    let mut frames = Frames::new(alloc, slots + 1, entries)?;
+    match put_frames(alloc, &mut frames, lookup, rows) {
+        Ok(()) => Ok(frames),
+        Err(e) => Err(e),
     }
 }

@@ -1,14 +1,9 @@
-use Rattle.std.proofs.Common.{◌≡◌, ℕ, zero, suc, ◌+◌, ◌<◌, length, refl, sym, ap, ◌∙◌, subst, arith}
-use Rattle.arena_heap.specs.declared.value.Value.{Value}
+use Rattle.std.proofs.Common.{◌≡◌, suc, ◌+◌, ◌<◌, length, ap, ◌∙◌, arith}
 use Rattle.vm_frames.specs.declared.slot.Slot.TheVariants as stacked
 use Rattle.vm_frames.specs.Calls.{on_running}
 use Rattle.snap_states.specs.Decoded.{iterator_of}
-use Rattle.snap_loading.proofs.Stacking.{with_slots, no_change, push_more, push_room}
+use Rattle.snap_loading.proofs.Stacking.{with_slots, no_change, push_more, push_room, iterator_long}
 use Rattle.snap_loading.proofs.frames.push_iterator.Goals as goal
-
-iterator_long : (k : ℕ) (over : Value) (at : ℕ) → length (iterator_of k over at) ≡ k
-iterator_long zero over at = refl
-iterator_long (suc k) over at = ap suc (iterator_long k over at)
 
 pub loop-part-init : goal.loop-part-init
 loop-part-init c = no_change c.args.frames.now
