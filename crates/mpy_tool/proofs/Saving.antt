@@ -11,7 +11,7 @@ use Rattle.meant_commands.specs.run_commands.declared.ready.Ready.{Ready}
 use Rattle.meant_commands.specs.run_commands.library_runs.Runs.{Sight}
 use Rattle.meant_commands.specs.run_commands.Save.{RunsTo, place_to}
 use Rattle.meant_commands.specs.run_commands.Resume.{Resumes}
-use Rattle.meant_commands.proofs.run_commands_lemmas.Resuming.{resumed_only, resumed_same}
+use Rattle.meant_commands.proofs.run_commands_lemmas.Resumption.{resumed_only, resumed_same}
 use Rattle.meant_commands.proofs.run_commands_lemmas.Suspending.{saving_only, word_to}
 use Rattle.mpy_tool.specs.Order.{ChangesSaved}
 

@@ -1,5 +1,6 @@
 -- Runs that go on from a snapshot.
-use Rattle.std.specs.Prelude.{◌≡◌, ◌≢◌, ◌⊎◌, ◌++◌, ◌<◌, ◌≤◌, ℕ, Bool, true, false, List, [], length, slice_index_or, Option, Some, None, IfSome, Result, Ok, Err}
+use Rattle.std.specs.Prelude.{◌≡◌, ◌≢◌, ◌⊎◌, ◌++◌, ◌<◌, ◌≤◌, ℕ, Bool, true, false, List, [], length}
+use Rattle.std.specs.Prelude.{slice_index_or, Option, Some, None, IfSome, Result, Ok, Err}
 use Rattle.mpy_base.specs.declared.limits.TheConstants.{MAX_READ_BYTES}
 use Rattle.mpy_io.specs.Count.{Counts}
 use Rattle.mpy_io.specs.Files.{FileOf}
@@ -17,12 +18,15 @@ use Rattle.snap_loading.specs.snap_grammar.Reading.{BeginsSo}
 use Rattle.snap_loading.specs.snap_grammar.Spelling.{Fits, spelling}
 use Rattle.snap_loading.specs.snap_states.States.{IsStateOf}
 use Rattle.library_runs.specs.vm_starting.declared.opening.Vm.{Vm}
+use Rattle.library_runs.specs.vm_machine.Machine.{IsVm}
 use Rattle.library_runs.specs.declared.ending.RunEnd.{RunEnd}
 use Rattle.library_runs.specs.declared.ending.RunEnd.TheVariants as ends
 use Rattle.library_runs.specs.Runs.{Sight, GoesOn, StandsOn}
 use Rattle.command_files.specs.mpy_words.Words.{saved_name}
 use Rattle.command_files.specs.mpy_endings.declared.ending.Ending.{Ending}
-use Rattle.command_files.specs.mpy_endings.declared.ending.Ending.TheVariants.{Done, Unaccepted, Unread, Unverified, Unmerged, Unopened, Unfrozen, Unboarded, Different, Stopped, ReadFault, WriteFault, Unwritten, NoMemory, Absent}
+use Rattle.command_files.specs.mpy_endings.declared.ending.Ending.TheVariants.{Done, Unaccepted, Unread, Unverified, Unmerged}
+use Rattle.command_files.specs.mpy_endings.declared.ending.Ending.TheVariants.{Unopened, Unfrozen, Unboarded, Different, Stopped}
+use Rattle.command_files.specs.mpy_endings.declared.ending.Ending.TheVariants.{ReadFault, WriteFault, Unwritten, NoMemory, Absent}
 use Rattle.command_files.specs.mpy_endings.declared.ending.Stop.TheVariants.{Past, LibraryFault, LibraryUnaccepted, Raised, Memory, Steps, Unsaved, Unresumed}
 use Rattle.command_files.specs.mpy_endings.Ending.{is_folder_fault, is_out_fault, status_of}
 use Rattle.command_files.specs.mpy_endings.Line.{Says, line_of}
@@ -60,8 +64,10 @@ ImageLibrary below bytes (Err Absent) = ⊥
 -- keeps it from being loaded
 pub data ResumeLibrary (below : Shelf) (files : Option FileOf) (name : List ℕ) (answer : Result Shelf Ending) : Type 0 where
   not_read : (ending : Ending) → IsNotRead files name ending → answer ≡ Err ending → ResumeLibrary below files name answer
-  of_file : (bytes : List ℕ) → MayHold files name (Some bytes) → begins_image bytes ≡ false → FileLibrary files name answer → ResumeLibrary below files name answer
-  of_image : (bytes : List ℕ) → MayHold files name (Some bytes) → length bytes ≤ MAX_READ_BYTES → begins_image bytes ≡ true → ImageLibrary below bytes answer → ResumeLibrary below files name answer
+  of_file : (bytes : List ℕ) → MayHold files name (Some bytes) → begins_image bytes ≡ false → FileLibrary files name answer
+      → ResumeLibrary below files name answer
+  of_image : (bytes : List ℕ) → MayHold files name (Some bytes) → length bytes ≤ MAX_READ_BYTES → begins_image bytes ≡ true
+      → ImageLibrary below bytes answer → ResumeLibrary below files name answer
 
 -- the snapshot
 -- ============
@@ -106,11 +112,12 @@ RefusesState shelf files name Unwritten = ⊥
 RefusesState shelf files name NoMemory = Unit {0}
 RefusesState shelf files name Absent = MayHold files name None
 
--- the file under the name is a snapshot of a state of the library, and the machine was made of it
+-- the file under the name is a snapshot of a state of the library, and the machine, which runs the library, was made of it
 pub record HoldsState (shelf : Shelf) (files : Option FileOf) (name : List ℕ) (vm : Vm) : Type 0 where
   pub bytes : List ℕ
   pub holds : MayHold files name (Some bytes)
   pub loaded : IsLoaded shelf bytes vm
+  pub is_vm : IsVm shelf vm
 
 -- the run on
 -- ==========
@@ -141,7 +148,8 @@ module _ (shelf : Shelf) (vm : Vm) (steps : ℕ) (old new : Sight) (said : List 
 
 -- what loading the library comes to, the name of the snapshot, the words, the place among them of the file to save to, if one is
 -- given, the steps, and what was seen and said
-module _ (Comes : Result Shelf Ending → Type 0) (snap : List ℕ) (words : List (List ℕ)) (save : Option ℕ) (steps : ℕ) (old new : Sight) (said : List ℕ) (files_old files_new : Option FileOf) where
+module _ (Comes : Result Shelf Ending → Type 0) (snap : List ℕ) (words : List (List ℕ)) (save : Option ℕ) (steps : ℕ)
+    (old new : Sight) (said : List ℕ) (files_old files_new : Option FileOf) where
   -- the library isn't loaded
   pub record IsNotLoaded (place : ℕ) (ending : Ending) : Type 0 where
     pub comes : Comes (Err ending)
@@ -174,7 +182,9 @@ module _ (Comes : Result Shelf Ending → Type 0) (snap : List ℕ) (words : Lis
 -- A command that goes on from the snapshot of this name, in the library that comes so of the folder's files and of the file's name, ended
 -- so: why, with what printed, what the ports tell and what in the folder, which count of faults rose, and what was said, in the run and
 -- behind it.
-pub record EndsResume (Comes : Option FileOf → (name : List ℕ) → Result Shelf Ending → Type 0) (steps : ℕ) (name snap : List ℕ) (words : List (List ℕ)) (save : Option ℕ) (old new : Outside) (ports_old ports_new : List PortView) (status : ℕ) : Type 0 where
+pub record EndsResume (Comes : Option FileOf → (name : List ℕ) → Result Shelf Ending → Type 0) (steps : ℕ)
+    (name snap : List ℕ) (words : List (List ℕ)) (save : Option ℕ) (old new : Outside)
+    (ports_old ports_new : List PortView) (status : ℕ) : Type 0 where
   pub ending : Ending
   pub place : ℕ
   pub said : List ℕ

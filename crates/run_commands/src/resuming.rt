@@ -181,7 +181,8 @@ fn resume_bytes<F: Folder, S: Sink, P: Port, E: Sink>(
     requires read { MayHold (F.files folder.old) (second_name (map string_bytes words.now)) (Some bytes.now) }
     ensures went { let given = map string_bytes words.now in (said : List ℕ)
         × Resumes (λ answer. answer ≡ Ok library.now) (second_name given) given save steps
-        (sight S.told P.seen out.old ports.old) (sight S.told P.seen out.new ports.new) said (F.files folder.old) (F.files folder.new) result.place result.ending
+        (sight S.told P.seen out.old ports.old) (sight S.told P.seen out.new ports.new) said (F.files folder.old)
+        (F.files folder.new) result.place result.ending
         × Says (E.told say.old) (E.told say.new) (E.count say.old) (E.count say.new) said }
     ensures flushed { IsRunStatus (status_of result.ending) → S.held out.new ≡ [] }
     ensures handed_on { result.ending ≡ Stopped Unsaved → S.held out.new ≡ [] }
@@ -220,7 +221,8 @@ fn resume_in<F: Folder, S: Sink, P: Port, E: Sink>(
     requires steps { steps < 2 ^ 63 }
     ensures went { let given = map string_bytes words.now in (said : List ℕ)
         × Resumes (λ answer. answer ≡ Ok library.now) (second_name given) given save steps
-        (sight S.told P.seen out.old ports.old) (sight S.told P.seen out.new ports.new) said (F.files folder.old) (F.files folder.new) result.place result.ending
+        (sight S.told P.seen out.old ports.old) (sight S.told P.seen out.new ports.new) said (F.files folder.old)
+        (F.files folder.new) result.place result.ending
         × Says (E.told say.old) (E.told say.new) (E.count say.old) (E.count say.new) said }
     ensures flushed { IsRunStatus (status_of result.ending) → S.held out.new ≡ [] }
     ensures handed_on { result.ending ≡ Stopped Unsaved → S.held out.new ≡ [] }
@@ -255,7 +257,8 @@ pub fn resume<F: Folder, S: Sink, P: Port, E: Sink>(
     requires steps { steps < 2 ^ 63 }
     ensures went { let given = map string_bytes words.now in (said : List ℕ)
         × Resumes (ResumeLibrary below.now (F.files folder.old) (first_name given)) (second_name given) given save steps
-        (sight S.told P.seen out.old ports.old) (sight S.told P.seen out.new ports.new) said (F.files folder.old) (F.files folder.new) result.place result.ending
+        (sight S.told P.seen out.old ports.old) (sight S.told P.seen out.new ports.new) said (F.files folder.old)
+        (F.files folder.new) result.place result.ending
         × Says (E.told say.old) (E.told say.new) (E.count say.old) (E.count say.new) said }
     ensures flushed { IsRunStatus (status_of result.ending) → S.held out.new ≡ [] }
     ensures handed_on { result.ending ≡ Stopped Unsaved → S.held out.new ≡ [] }

@@ -32,7 +32,6 @@ pub fn load(
     ensures form { IsErrOf result (refused.Fault faults.BadForm) → (s : Whole) → Fits s → bytes.now ≡ spelling s → ⊥ }
     ensures state { IsErrOf result (refused.Fault faults.BadState) → (s : Whole) × Fits s × (bytes.now ≡ spelling s) × (IsStateOf library.now s → ⊥) }
 {
-    let _ = (library, rows);
     match read(alloc, bytes) {
         Ok(_) => Err(Refused::NoMemory),
         Err(refused) => Err(refused),

@@ -5,7 +5,7 @@ use Rattle.mpy_endings.specs.declared.ending.Ending.TheVariants.{NoMemory}
 use Rattle.mpy_endings.proofs.Statuses.{not_nine}
 use Rattle.meant_commands.specs.run_commands.library_runs.Runs.{sight}
 use Rattle.meant_commands.specs.run_commands.Resume.{ResumeLibrary, Resumes, not_read}
-use Rattle.meant_commands.proofs.run_commands_lemmas.Resuming.{untouched}
+use Rattle.meant_commands.proofs.run_commands_lemmas.Resumption.{untouched}
 use Rattle.meant_commands.proofs.run_commands_lemmas.Running.{says_nothing}
 use Rattle.mpy_tool.specs.Call.{texts}
 use Rattle.mpy_tool.proofs.Under.{is_opened}

@@ -6,7 +6,7 @@ use Rattle.mpy_endings.proofs.Statuses.{unsaved_ended}
 use Rattle.meant_commands.specs.run_commands.library_runs.Runs.{sight}
 use Rattle.meant_commands.specs.run_commands.Resume.{ResumeLibrary}
 use Rattle.meant_commands.specs.run_commands.Run.{sight_in}
-use Rattle.meant_commands.proofs.run_commands_lemmas.Resuming.{resumed_unsaid}
+use Rattle.meant_commands.proofs.run_commands_lemmas.Resumption.{resumed_unsaid}
 use Rattle.meant_commands.proofs.run_commands_lemmas.Running.{said_all}
 use Rattle.mpy_tool.specs.Call.{call_of, texts}
 use Rattle.mpy_tool.specs.Below.{library_below}

@@ -1,5 +1,5 @@
 use Rattle.std.proofs.Common.{inr, ap, Err}
-use Rattle.run_commands.proofs.Resuming.{first_fault}
+use Rattle.run_commands.proofs.Resumption.{first_fault}
 use Rattle.run_commands.proofs.resuming.load_state.Goals as goal
 
 pub returns-in-Err-Fault-clause-refused : goal.returns-in-Err-Fault-clause-refused

@@ -8,7 +8,7 @@ use Rattle.command_files.specs.mpy_endings.Ending.{is_folder_fault}
 use Rattle.command_files.specs.mpy_words.Words.{first_name, second_name}
 use Rattle.run_commands.specs.Resume.{ResumeLibrary, Resumes}
 use Rattle.run_commands.specs.Run.{IsUnloaded}
-use Rattle.run_commands.proofs.Resuming.{resumed_known, untouched}
+use Rattle.run_commands.proofs.Resumption.{resumed_known, untouched}
 use Rattle.run_commands.proofs.Running.{says_nothing, unloaded_quiet, unloaded_unrun}
 use Rattle.run_commands.proofs.resuming.resume.Goals as goal
 

@@ -5,7 +5,7 @@ use Rattle.command_files.specs.mpy_endings.declared.ending.Ending.{Ending}
 use Rattle.command_files.specs.mpy_endings.declared.ending.Ending.TheVariants.{NoMemory}
 use Rattle.command_files.specs.mpy_endings.Ending.{IsRunStatus, is_folder_fault, is_out_fault, status_of}
 use Rattle.command_files.specs.mpy_words.Words.{second_name}
-use Rattle.run_commands.proofs.Resuming.{countable, has_resumed, is_refused, refused_quiet, refused_unrun, refused_unsaved, untouched}
+use Rattle.run_commands.proofs.Resumption.{countable, has_resumed, is_refused, refused_quiet, refused_unrun, refused_unsaved, untouched}
 use Rattle.run_commands.proofs.Running.{says_nothing}
 use Rattle.run_commands.proofs.resuming.resume_bytes.Goals as goal
 
@@ -100,7 +100,7 @@ returns-clause-went g c =
       went.0,
       has_resumed (second_name words) words c.args.save c.args.steps old new went.0 (g.F.Folder.files c.args.folder.now) (g.F.Folder.files c.go_on-ending.new.folder)
           c.args.library.now c.in-Ok-load_state.vm c.go_on-ending.result c.place_of-place.result c.place_of-place.ensures
-          (record { bytes = c.args.bytes.now; holds = c.requires.read; loaded = c.in-Ok-load_state.ensures.loaded }) went.1,
+          (record { bytes = c.args.bytes.now; holds = c.requires.read; loaded = c.in-Ok-load_state.ensures.loaded; is_vm = c.in-Ok-load_state.ensures.ready }) went.1,
       went.2,
     )
 

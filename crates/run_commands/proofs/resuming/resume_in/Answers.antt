@@ -8,7 +8,7 @@ use Rattle.command_files.specs.mpy_endings.declared.ending.Ending.{Ending}
 use Rattle.command_files.specs.mpy_endings.Ending.{IsRunStatus, is_folder_fault, is_out_fault, status_of}
 use Rattle.command_files.specs.mpy_words.Words.{second_name}
 use Rattle.run_commands.specs.Resume.{RefusesState, Resumes}
-use Rattle.run_commands.proofs.Resuming.{is_refused, refused_quiet, refused_unrun, refused_unsaved, untouched}
+use Rattle.run_commands.proofs.Resumption.{is_refused, refused_quiet, refused_unrun, refused_unsaved, untouched}
 use Rattle.run_commands.proofs.Running.{says_nothing}
 use Rattle.run_commands.proofs.resuming.resume_in.Goals as goal
 

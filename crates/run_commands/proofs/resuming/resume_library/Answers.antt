@@ -4,7 +4,7 @@ use Rattle.mpy_io.specs.Count.{Counts}
 use Rattle.run_commands.specs.Ready.{begins_image}
 use Rattle.run_commands.specs.Resume.{not_read}
 use Rattle.run_commands.specs.Run.{FileLibrary}
-use Rattle.run_commands.proofs.Resuming.{file_comes, image_comes, image_counted, image_unloaded}
+use Rattle.run_commands.proofs.Resumption.{file_comes, image_comes, image_counted, image_unloaded}
 use Rattle.run_commands.proofs.Starting.{unread_unloaded}
 use Rattle.run_commands.proofs.resuming.resume_library.Goals as goal
 

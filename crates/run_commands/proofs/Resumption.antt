@@ -32,7 +32,9 @@ use Rattle.command_files.proofs.mpy_endings_lemmas.Statuses.{none_run}
 use Rattle.run_commands.specs.Ready.{begins_image}
 use Rattle.run_commands.specs.Run.{FileLibrary, IsUnloaded, Untouched, ending_of}
 use Rattle.run_commands.specs.Save.{SavesState, place_to}
-use Rattle.run_commands.specs.Resume.{FirstSnapFault, HoldsState, ImageLibrary, RefusesState, ResumeLibrary, Resumes, WentOn, of_file, of_image}
+use Rattle.run_commands.specs.Resume.{FirstSnapFault, HoldsState, ImageLibrary, RefusesState, ResumeLibrary, Resumes, WentOn, not_read, of_file, of_image}
+use Rattle.run_commands.proofs.Running.{refused_unloaded}
+use Rattle.run_commands.proofs.Starting.{unread_unloaded}
 
 -- the library
 -- ===========
@@ -72,6 +74,37 @@ module _ (below : Shelf) (files : Option FileOf) (name bytes read : List ℕ) (b
   pub file_comes : read ≡ bytes → MayHold files name (Some bytes) → begins ≡ begins_image read → begins ≡ false → FileLibrary files name result → ResumeLibrary below files name result
   file_comes e holds is false_is h = of_file bytes holds (sym (is ∙ ap begins_image e) ∙ false_is) h
 
+pub library_unloaded : (below : Shelf) (files : Option FileOf) (name : List ℕ) (ending : Ending) → ResumeLibrary below files name (Err ending) → IsUnloaded ending
+library_unloaded below files name ending (not_read said h e) = let same : ending ≡ said = cc in subst IsUnloaded (sym same) (unread_unloaded files name said h)
+library_unloaded below files name ending (of_file bytes holds begins h) = refused_unloaded files name ending h
+library_unloaded below files name ending (of_image bytes holds short begins h) = (image_refused below bytes ending h).0
+
+-- and no write failed
+pub unloaded_uncut : (ending : Ending) → IsUnloaded ending → status_of ending ≡ 8 → ⊥
+unloaded_uncut Done h e = absurd h
+unloaded_uncut (Unaccepted fault) h e = absurd cc
+unloaded_uncut (Unread fault) h e = absurd cc
+unloaded_uncut (Unverified fault) h e = absurd cc
+unloaded_uncut (Unmerged fault) h e = absurd h
+unloaded_uncut (Unopened (mains.Image fault)) h e = absurd cc
+unloaded_uncut (Unopened (mains.NoMain name)) h e = absurd cc
+unloaded_uncut (Unfrozen fault) h e = absurd h
+unloaded_uncut (Unboarded fault) h e = absurd h
+unloaded_uncut (Different difference) h e = absurd h
+unloaded_uncut (Stopped (Past limit)) h e = absurd cc
+unloaded_uncut (Stopped (LibraryFault path)) h e = absurd cc
+unloaded_uncut (Stopped (LibraryUnaccepted source)) h e = absurd cc
+unloaded_uncut (Stopped Raised) h e = absurd h
+unloaded_uncut (Stopped Memory) h e = absurd h
+unloaded_uncut (Stopped (Steps count)) h e = absurd h
+unloaded_uncut (Stopped Unsaved) h e = absurd h
+unloaded_uncut (Stopped (Unresumed fault)) h e = absurd h
+unloaded_uncut ReadFault h e = absurd cc
+unloaded_uncut WriteFault h e = absurd h
+unloaded_uncut Unwritten h e = absurd h
+unloaded_uncut NoMemory h e = absurd cc
+unloaded_uncut Absent h e = absurd cc
+
 -- the snapshot
 -- ============
 
@@ -107,6 +140,31 @@ module _ (shelf : Shelf) (files : Option FileOf) (name : List ℕ) where
 
   pub refused_unrun : (ending : Ending) → Refuses ending → IsRunStatus (status_of ending) → ⊥
   refused_unrun ending h s = none_run Refuses (λ p. p) (λ p. p) (λ p. p) (λ count p. p) ending h s
+
+  -- nor does it lack a write
+  pub refused_uncut : (ending : Ending) → Refuses ending → status_of ending ≡ 8 → ⊥
+  refused_uncut Done h e = absurd h
+  refused_uncut (Unaccepted fault) h e = absurd h
+  refused_uncut (Unread fault) h e = absurd h
+  refused_uncut (Unverified fault) h e = absurd h
+  refused_uncut (Unmerged fault) h e = absurd h
+  refused_uncut (Unopened fault) h e = absurd h
+  refused_uncut (Unfrozen fault) h e = absurd h
+  refused_uncut (Unboarded fault) h e = absurd h
+  refused_uncut (Different difference) h e = absurd h
+  refused_uncut (Stopped (Past limit)) h e = absurd h
+  refused_uncut (Stopped (LibraryFault path)) h e = absurd h
+  refused_uncut (Stopped (LibraryUnaccepted source)) h e = absurd h
+  refused_uncut (Stopped Raised) h e = absurd h
+  refused_uncut (Stopped Memory) h e = absurd h
+  refused_uncut (Stopped (Steps count)) h e = absurd h
+  refused_uncut (Stopped Unsaved) h e = absurd h
+  refused_uncut (Stopped (Unresumed fault)) h e = absurd cc
+  refused_uncut ReadFault h e = absurd cc
+  refused_uncut WriteFault h e = absurd h
+  refused_uncut Unwritten h e = absurd h
+  refused_uncut NoMemory h e = absurd cc
+  refused_uncut Absent h e = absurd cc
 
   pub refused_unsaved : (ending : Ending) → Refuses ending → ending ≡ Stopped Unsaved → ⊥
   refused_unsaved ending h e = subst Refuses e h
