@@ -34,7 +34,7 @@ pub(crate) struct Held {
 
 /// What arrives along an edge, and the row that it is compared with.
 #[derive(Drop)]
-pub(crate) struct Seen {
+pub struct Seen {
     pub came: Shape,
     pub there: Shape,
 }
@@ -137,7 +137,7 @@ fn leads(table: &Table, edge: Edge, seen: &mut Seen) -> Result<bool, NoMemory>
 }
 
 /// Does the edge lead to such a row, if there is one?
-fn leads_if(table: &Table, edge: Option<Edge>, seen: &mut Seen) -> Result<bool, NoMemory>
+pub fn leads_if(table: &Table, edge: Option<Edge>, seen: &mut Seen) -> Result<bool, NoMemory>
     ensures { IfOk result (λ yes. OnTrue yes (Lead (rows_of table.now) (map edge_of_rust (option_list edge.entry)))) }
 {
     match edge {
@@ -176,7 +176,7 @@ fn last_handler(p: usize, entry: Entry) -> usize
 }
 
 /// Does each entry stand no higher than the one above it, and have those that aren't active their handlers one behind another?
-fn are_ordered(slots: usize, p: usize, entries: &[Entry]) -> bool
+pub fn are_ordered(slots: usize, p: usize, entries: &[Entry]) -> bool
     ensures { result ≡ checking_specs.ordered slots p entries.now }
 {
     let mut height = slots;
@@ -192,7 +192,7 @@ fn are_ordered(slots: usize, p: usize, entries: &[Entry]) -> bool
 }
 
 /// Are the rules kept but for the edges to the next position and to the finally handlers that run?
-fn stands(
+pub fn stands(
     code: &Code,
     locals: usize,
     table: &Table,

@@ -16,7 +16,7 @@ mod sharing;
 mod walking;
 
 pub use certificate::{Row, Table};
-pub use checking::{action_in, check, copy_row, row_at};
+pub use checking::{Seen, action_in, are_ordered, check, copy_row, leads_if, row_at, stands};
 pub use searching::{certified, search};
 
 /// Code with a certificate is verified: what its rows carry meets the rules along every edge.

@@ -29,7 +29,7 @@ clear zero p = refl
 clear (suc n) zero = refl
 clear (suc n) (suc p) = clear n p
 
-none_set : (n p : ℕ) → IsSet (replicate n false) p → ⊥
+pub none_set : (n p : ℕ) → IsSet (replicate n false) p → ⊥
 none_set n p h = true≢false (sym h ∙ clear n p)
 
 none_seen : (n p : ℕ) (x : At) → at (replicate n Unseen) p ≡ Some x → ⊥

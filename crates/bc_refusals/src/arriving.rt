@@ -13,7 +13,7 @@ ghost use Rattle.bc_refusals.specs.Stages.{AnyClash, BeginAll, Begins, Clash, Is
 ghost use Rattle.bc_refusals.specs.Views.{IsCarried};
 
 use crate::opening::open_shape;
-use bc_certificates::{Table, copy_row, row_at};
+use bc_certificates::{Seen, Table, copy_row, row_at};
 use bc_flow::{Edge, copy};
 use bc_shapes::{Shape, Span, join, under};
 use mpy_base::NoMemory;
@@ -24,13 +24,6 @@ pub(crate) struct Carried {
     pub here: bool,
     pub position: usize,
     pub shape: Shape,
-}
-
-/// What an edge brings, and what stands at its end.
-#[derive(Drop)]
-pub(crate) struct Meeting {
-    pub came: Shape,
-    pub there: Shape,
 }
 
 /// Is the position's flag set?
@@ -72,7 +65,7 @@ pub(crate) fn read_there(
 }
 
 /// Had the causes among the slots at an edge's end been causes if the edge was the first to come there?
-fn opens_below(meeting: &mut Meeting) -> bool
+fn opens_below(meeting: &mut Seen) -> bool
     ensures { OnTrue result (specs.Opens (at_of meeting.old.came) (at_of meeting.old.there)) }
 {
     open_shape(&mut meeting.came);
@@ -86,7 +79,7 @@ fn leads(
     carried: &Carried,
     came: &[bool],
     edge: Edge,
-    meeting: &mut Meeting,
+    meeting: &mut Seen,
 ) -> Result<bool, NoMemory>
     ensures { (code : SpecCode) → IsCarried code (rows_of table.now) carried.now
         → IfOk result (λ yes. OnTrue yes (Lead (rows_specs.carried code (rows_of table.now)) came.now (edge_of_rust edge.entry))) }
@@ -109,7 +102,7 @@ fn begins(
     table: &Table,
     carried: &Carried,
     edge: Edge,
-    meeting: &mut Meeting,
+    meeting: &mut Seen,
 ) -> Result<bool, NoMemory>
     ensures { (code : SpecCode) → IsCarried code (rows_of table.now) carried.now → IfOk result (λ yes. OnTrue yes ((x : At)
         × (rows_specs.carried code (rows_of table.now) edge.entry.to ≡ Some x) × specs.Opens (edge_of_rust edge.entry).at x)) }
@@ -127,7 +120,7 @@ fn any_begins(
     carried: &Carried,
     p: usize,
     edges: &[Edge],
-    meeting: &mut Meeting,
+    meeting: &mut Seen,
 ) -> Result<bool, NoMemory>
     ensures { (code : SpecCode) → IsCarried code (rows_of table.now) carried.now
         → IfOk result (λ yes. OnTrue yes (Begins (rows_specs.carried code (rows_of table.now)) p (map edge_of_rust edges.now))) }
@@ -146,7 +139,7 @@ pub(crate) fn all_begin(
     carried: &Carried,
     came: &[bool],
     edges: &[Edge],
-    meeting: &mut Meeting,
+    meeting: &mut Seen,
 ) -> Result<bool, NoMemory>
     ensures { (code : SpecCode) → IsCarried code (rows_of table.now) carried.now
         → IfOk result (λ yes. OnTrue yes (BeginAll (rows_specs.carried code (rows_of table.now)) came.now (map edge_of_rust edges.now)
@@ -166,7 +159,7 @@ pub(crate) fn all_lead(
     carried: &Carried,
     came: &[bool],
     edges: &[Edge],
-    meeting: &mut Meeting,
+    meeting: &mut Seen,
 ) -> Result<bool, NoMemory>
     ensures { (code : SpecCode) → IsCarried code (rows_of table.now) carried.now
         → IfOk result (λ yes. OnTrue yes (LeadAll (rows_specs.carried code (rows_of table.now)) came.now (map edge_of_rust edges.now))) }

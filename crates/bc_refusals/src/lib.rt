@@ -3,7 +3,9 @@
 
 mod agreeing;
 mod arriving;
+mod chaining;
 mod judging;
+mod leaving;
 mod opening;
 mod order;
 mod refusing;

@@ -13,9 +13,9 @@ ghost use Rattle.bc_refusals.specs.Stages.{Agrees, AnyClash, Breaks, IsSet};
 ghost use Rattle.bc_refusals.specs.Views.{IsCarried};
 
 use crate::agreeing::agree;
-use crate::arriving::{Carried, Meeting, all_lead, any_clash};
+use crate::arriving::{Carried, all_lead, any_clash};
 use crate::opening::open_shape;
-use bc_certificates::Table;
+use bc_certificates::{Seen, Table};
 use bc_flow::{
     Action, Code, Edge, Rule, all_edges, base, copy, finds, holds, nothing, room, stays,
 };
@@ -64,7 +64,7 @@ fn broken_behind(
     p: usize,
     x: &Shape,
     edges: &[Edge],
-    meeting: &mut Meeting,
+    meeting: &mut Seen,
 ) -> Result<Option<Rule>, NoMemory>
     requires within { p < length code.now.items.items }
     requires locals_are { locals ≡ (code_of code.now).locals }
@@ -103,7 +103,7 @@ fn broken_slots(
     p: usize,
     x: &Shape,
     edges: &[Edge],
-    meeting: &mut Meeting,
+    meeting: &mut Seen,
 ) -> Result<Option<Rule>, NoMemory>
     requires within { p < length code.now.items.items }
     requires locals_are { locals ≡ (code_of code.now).locals }
@@ -156,7 +156,7 @@ pub(crate) fn broken(
     p: usize,
     x: &Shape,
     edges: &[Edge],
-    meeting: &mut Meeting,
+    meeting: &mut Seen,
 ) -> Result<Option<Rule>, NoMemory>
     requires within { p < length code.now.items.items }
     requires locals_are { locals ≡ (code_of code.now).locals }

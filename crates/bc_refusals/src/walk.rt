@@ -12,14 +12,17 @@ ghost use Rattle.bc_flow.specs.Views.{action_of, edge_of_rust};
 ghost use Rattle.bc_certificates.specs.Checking.{rows_of};
 ghost use Rattle.bc_certificates.specs.Rows as rows_specs;
 ghost use Rattle.bc_certificates.specs.Rows.{Rows};
+ghost use Rattle.bc_refusals.specs.Chains.{LeadOn};
 ghost use Rattle.bc_refusals.specs.Stages.{IsNext, IsSet, Keeps, Kept};
 ghost use Rattle.bc_refusals.specs.Views.{IsCarried};
 ghost use Rattle.bc_refusals.specs.Walks.{After, Follows, IsInner};
 
-use crate::arriving::{Carried, Meeting, all_begin, all_lead, note, note_all, read_there};
+use crate::arriving::{Carried, all_begin, all_lead, note, note_all, read_there};
+use crate::chaining::leading_handlers;
+use crate::leaving::keeps_leaving;
 use crate::order::{clear_flags, next_waiting};
 use crate::refusing::broken;
-use bc_certificates::{Table, action_in, copy_row, row_at};
+use bc_certificates::{Seen, Table, action_in, copy_row, row_at};
 use bc_flow::{
     Action, Code, Edge, Fault, Rule, all_edges, base, change_of, entries_behind, falls, finds,
     holds, locals, next_edge, nothing, room, stays,
@@ -131,8 +134,8 @@ fn keeps_own(
     stays(code, action, p)
 }
 
-/// Are the rules kept at a position, and do its edges lead to what stands there?
-fn keeps(
+/// Are the rules kept at a position, and do its edges lead to what stands there? Each edge is looked at.
+fn keeps_each(
     code: &Code,
     locals: usize,
     table: &Table,
@@ -143,7 +146,7 @@ fn keeps(
     x: &Shape,
     edges: &[Edge],
     inner: bool,
-    meeting: &mut Meeting,
+    meeting: &mut Seen,
 ) -> Result<bool, NoMemory>
     requires within { p < length code.now.items.items }
     requires locals_are { locals ≡ (code_of code.now).locals }
@@ -165,6 +168,42 @@ fn keeps(
     all_begin(table, carried, came, to_rows, meeting)
 }
 
+/// Are the rules kept at a position, and do its edges lead to what stands there?
+fn keeps(
+    code: &Code,
+    locals: usize,
+    table: &Table,
+    carried: &Carried,
+    leading: &[bool],
+    came: &[bool],
+    action: &Action,
+    p: usize,
+    x: &Shape,
+    edges: &[Edge],
+    inner: bool,
+    meeting: &mut Seen,
+) -> Result<bool, NoMemory>
+    requires within { p < length code.now.items.items }
+    requires locals_are { locals ≡ (code_of code.now).locals }
+    requires long { length came.now ≡ length (code_of code.now).actions }
+    requires carried_is { IsCarried (code_of code.now) (rows_of table.now) carried.now }
+    requires there { rows_specs.carried (code_of code.now) (rows_of table.now) p ≡ Some (at_of x.now) }
+    requires leading_are { LeadOn (rows_of table.now) leading.now }
+    requires inner_is { OnTrue inner (IsInner (code_of code.now) (rows_of table.now) (action_of action.now) p) }
+    requires action_is { slice_get (code_of code.now).actions p ≡ Some (action_of action.now) }
+    requires along { map edge_of_rust edges.now ≡ edges_specs.edges (code_of code.now) (action_of action.now) p (at_of x.now) }
+    ensures { IfOk result (λ yes. OnTrue yes (Keeps (code_of code.now) (rows_specs.carried (code_of code.now) (rows_of table.now)) came.now p (at_of x.now))) }
+{
+    if keeps_leaving(
+        code, locals, table, carried, leading, came, action, p, x, edges, meeting,
+    )? {
+        return Ok(true);
+    }
+    keeps_each(
+        code, locals, table, carried, came, action, p, x, edges, inner, meeting,
+    )
+}
+
 /// Notes that the next position was visited, and where its edges lead.
 fn go_on(walk: &mut Walk, p: usize, edges: &[Edge])
     ensures { (code : SpecCode) (rows : Rows) (x : At) → Follows code rows walk.old → IsNext walk.old.came.items walk.old.gone.items p
@@ -182,13 +221,15 @@ fn visit_shape(
     code: &Code,
     locals: usize,
     table: &Table,
+    leading: &[bool],
     walk: &mut Walk,
     p: usize,
     x: &Shape,
-    meeting: &mut Meeting,
+    meeting: &mut Seen,
 ) -> Result<Turn, NoMemory>
     requires within { p < length code.now.items.items }
     requires locals_are { locals ≡ (code_of code.now).locals }
+    requires leading_are { LeadOn (rows_of table.now) leading.now }
     requires follows { Follows (code_of code.now) (rows_of table.now) walk.now }
     requires next { IsNext walk.now.came.items walk.now.gone.items p }
     requires there { rows_specs.carried (code_of code.now) (rows_of table.now) p ≡ Some (at_of x.now) }
@@ -203,6 +244,7 @@ fn visit_shape(
         locals,
         table,
         &walk.carried,
+        leading,
         &walk.came,
         &action,
         p,
@@ -238,13 +280,15 @@ fn visit(
     code: &Code,
     locals: usize,
     table: &Table,
+    leading: &[bool],
     walk: &mut Walk,
     p: usize,
     x: &mut Shape,
-    meeting: &mut Meeting,
+    meeting: &mut Seen,
 ) -> Result<Turn, NoMemory>
     requires within { p < length code.now.items.items }
     requires locals_are { locals ≡ (code_of code.now).locals }
+    requires leading_are { LeadOn (rows_of table.now) leading.now }
     requires follows { Follows (code_of code.now) (rows_of table.now) walk.now }
     requires next { IsNext walk.now.came.items walk.now.gone.items p }
     ensures { IfOk result (λ turn. After (code_of code.now) (rows_of table.now) p walk.new turn) }
@@ -252,7 +296,7 @@ fn visit(
     if !read_there(table, &walk.carried, p, x)? {
         return Ok(Turn::Unknown);
     }
-    visit_shape(alloc, code, locals, table, walk, p, x, meeting)
+    visit_shape(alloc, code, locals, table, leading, walk, p, x, meeting)
 }
 
 /// Is the row of the first position what holds at the start?
@@ -288,8 +332,8 @@ fn start(alloc: Global, size: usize) -> Result<Walk, NoMemory>
 }
 
 /// Nothing that meets nothing.
-fn no_meeting(alloc: Global) -> Meeting {
-    Meeting {
+fn no_meeting(alloc: Global) -> Seen {
+    Seen {
         came: nothing(alloc),
         there: nothing(alloc),
     }
@@ -308,6 +352,7 @@ pub fn fault_by(alloc: Global, code: &Code, table: &Table) -> Result<Option<Faul
     let locals = locals(code);
     let mut walk = start(alloc, size)?;
     let mut meeting = no_meeting(alloc);
+    let leading = leading_handlers(alloc, code, table, &mut meeting)?;
     for _turn in 0..size {
         let Some(p) = next_waiting(&walk.came, &walk.gone, walk.from) else {
             return Ok(None);
@@ -317,6 +362,7 @@ pub fn fault_by(alloc: Global, code: &Code, table: &Table) -> Result<Option<Faul
             code,
             locals,
             table,
+            &leading,
             &mut walk,
             p,
             &mut x,

@@ -1,9 +1,13 @@
 //! Calls of single crates: each line of data/calls has a call's name and what it is given, and is printed again with what is
-//! answered. A byte that isn't printed is written as in Python's texts (`\n`, `\x80`); bytes of files are hexadecimal.
+//! answered. A byte that isn't printed is written as in Python's texts (`\n`, `\x80`); bytes of files are hexadecimal. Behind these the
+//! streams, and the sources of data/limits.
 #![tactic(auto)]
 
 mod codes;
+mod limits;
 mod numbers;
+mod row;
+mod source;
 mod spelling;
 mod streams;
 mod tokens;
@@ -41,7 +45,7 @@ fn answer(alloc: Global, call: &str, given: &str) -> Result<String, AllocError> 
     }
 }
 
-/// Answers each call of the file `calls`, a line for each.
+/// Answers each call of the file `calls`, a line for each, then tries streams and the sources at the limits.
 fn main(rt: HostRuntime) -> io::Result<()> {
     let calls = fs::read_to_string(&rt, "calls")?;
     for line in calls.trim_end().split("\n") {
@@ -49,5 +53,6 @@ fn main(rt: HostRuntime) -> io::Result<()> {
         let answer = answer(rt.alloc(), call, given)?;
         println!(rt; "{line} -> {answer}")?;
     }
-    streams::print_streams(&rt)
+    streams::print_streams(&rt)?;
+    limits::print_limits(&rt)
 }

@@ -4,7 +4,6 @@ ghost use Rattle.std.specs.Prelude.{◌≡◌, ◌≢◌, ◌+◌, ◌<◌, ◌^
 ghost use Rattle.mpy_io.specs.Count.{Counts};
 ghost use Rattle.port_set.specs.Counts.{CountsKeep};
 ghost use Rattle.bc_library.specs.Shelf.{Named};
-ghost use Rattle.vm_machine.specs.vm_starting.Programs.{IsRunnable};
 ghost use Rattle.vm_machine.specs.Machine.{IsVm};
 ghost use Rattle.library_runs.specs.declared.ending.RunEnd.{RunEnd as End};
 ghost use Rattle.library_runs.specs.Runs.{GoesOn, RunsAs, Says, StandsAt, StandsOn, IsOver, is_write_fault, sight, speaks};
@@ -87,7 +86,6 @@ pub fn run_for<S: Sink, P: Port, E: Sink>(
     ports: &mut PortSet<P>,
     say: &mut E,
 ) -> (RunEnd, Option<Vm>)
-    requires runnable { IsRunnable library.now }
     requires there { main < length library.now.modules }
     ensures runs { (n : Named) → slice_get library.now.modules main ≡ Some n → (said : List ℕ)
         × RunsAs library.now n.name room steps (sight S.told P.seen out.old ports.old) (sight S.told P.seen out.new ports.new) result.0 said
@@ -127,7 +125,6 @@ pub fn run_library<S: Sink, P: Port, E: Sink>(
     ports: &mut PortSet<P>,
     say: &mut E,
 ) -> RunEnd
-    requires runnable { IsRunnable library.now }
     requires there { main < length library.now.modules }
     ensures runs { (n : Named) → slice_get library.now.modules main ≡ Some n → (said : List ℕ)
         × RunsAs library.now n.name room steps (sight S.told P.seen out.old ports.old) (sight S.told P.seen out.new ports.new) result said

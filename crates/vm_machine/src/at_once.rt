@@ -8,9 +8,8 @@ ghost use Rattle.vm_machine.specs.Machine.{IsVm};
 
 use crate::acting::step_act;
 use crate::fetching::{fetch_in, fetch_kept, row_of};
-use crate::forms::{Work, work_of};
 use bc_library::Library;
-use vm_at_once::{Fetched, Rows, act_at_once, store_at_once};
+use vm_at_once::{Fetched, Instruction, Rows, act_at_once, store_at_once};
 use vm_kept::{registered_law, step_law};
 use vm_starting::{Cache, Places, Vm, program_law};
 
@@ -24,14 +23,14 @@ fn act_unpaid(vm: &mut Vm, library: &Library, rows: &Rows<'_>, fetched: Fetched)
     ensures unpaid { vm.new.paid ≡ 0 }
     ensures few { result ≤ 1 }
 {
-    match work_of(fetched.instruction) {
-        Work::Acts(form) => {
+    match fetched.instruction {
+        Instruction::Acts(action) => {
             let row = row_of(vm, library, rows, fetched);
-            step_act(vm, library, rows, row, fetched, form);
+            step_act(vm, library, rows, row, action, fetched.end);
             1
         }
-        Work::Binary(_number) => 0,
-        Work::Calls(_op, _number) => 0,
+        Instruction::Binary(_number) => 0,
+        Instruction::Calls(_op, _number) => 0,
     }
 }
 

@@ -3,7 +3,6 @@ use Rattle.std.specs.Prelude.{IfOk, IfErr}
 use Rattle.std.proofs.lemmas.Option.{slice_get_within}
 use Rattle.bc_library.specs.mpy_tree.Raw.{Module}
 use Rattle.command_files.specs.image_runs.Main.{IsMainAt}
-use Rattle.library_files.specs.Ends.{HoldsModules}
 use Rattle.library_runs.specs.declared.ending.RunEnd.TheVariants as ends
 use Rattle.library_runs.specs.Runs.{sight}
 use Rattle.command_files.specs.mpy_endings.declared.ending.Ending.{Ending}
@@ -11,11 +10,6 @@ use Rattle.run_commands.specs.declared.ready.Ready.{Ready}
 use Rattle.run_commands.specs.Run.{IsUnloaded, Runs}
 use Rattle.run_commands.proofs.Running.{ran_library, not_loaded, run_over, same_sight, says_nothing, unloaded_unrun}
 use Rattle.run_commands.proofs.run.run_loaded.Goals as goal
-
-pub run_library-end-requires-clause-runnable : goal.run_library-end-requires-clause-runnable
-run_library-end-requires-clause-runnable g c =
-    let holds = subst (λ (r : Result Ready Ending). IfOk r (λ ready. HoldsModules ready.library)) c.in-Ok.is c.requires.holds in
-    record { distinct = holds.distinct; are_modules = holds.are_modules; are_verified = holds.are_verified }
 
 pub returns-in-Ok-clause-went : goal.returns-in-Ok-clause-went
 returns-in-Ok-clause-went g c =

@@ -1,17 +1,11 @@
-use Rattle.std.proofs.Common.{subst}
-use Rattle.vm_machine.specs.Forms.{IsWork}
+use Rattle.vm_kept.specs.state_calls.vm_fetching.Instructions as fetched
 use Rattle.vm_machine.proofs.AtOnce.{left}
+use Rattle.vm_machine.proofs.Fetched.{at_form}
 use Rattle.vm_machine.proofs.at_once.act_unpaid.Goals as goal
 
-pub work_of-requires : goal.work_of-requires
-work_of-requires c =
-    let h = c.requires.fetched.1 in (h.program.shelf, (h.ready h.program h.is_program).text)
-
-pub step_act-requires-clause-form : goal.step_act-requires-clause-form
-step_act-requires-clause-form c = (subst (IsWork c.args.fetched.instruction) c.in-Acts.is c.work_of.ensures).0
-
-pub step_act-requires-clause-no_visits : goal.step_act-requires-clause-no_visits
-step_act-requires-clause-no_visits c = (subst (IsWork c.args.fetched.instruction) c.in-Acts.is c.work_of.ensures).1
+pub step_act-requires-clause-fetched : goal.step_act-requires-clause-fetched
+step_act-requires-clause-fetched c =
+    at_form c.args.library.now c.args.vm.now c.row_of-row.result.now c.args.fetched c.row_of-row.ensures (fetched.acts c.in-Acts.action) c.in-Acts.is
 
 pub returns-in-Binary-clause-stepped : goal.returns-in-Binary-clause-stepped
 returns-in-Binary-clause-stepped c =

@@ -1,32 +1,19 @@
-use Rattle.std.proofs.Common.{refl, subst, arith}
+use Rattle.std.proofs.Common.{refl, arith}
 use Rattle.std.specs.Prelude.{map}
 use Rattle.port_set.proofs.Counting.{counts_same}
-use Rattle.vm_kept.specs.state_calls.vm_fetching.declared.instruction.Instruction.TheVariants as fetched
-use Rattle.vm_machine.specs.Forms.{IsWork}
+use Rattle.vm_kept.specs.state_calls.vm_fetching.Instructions as fetched
 use Rattle.vm_machine.proofs.Fetched.{at_form}
 use Rattle.vm_machine.proofs.Runs.{stepped_runs}
 use Rattle.vm_machine.proofs.stepping.step_on.Goals as goal
 
-pub work_of-requires : goal.work_of-requires
-work_of-requires g c = let h = c.requires.fetched in (h.program.shelf, (h.ready h.program h.is_program).text)
-
-pub step_act-requires-clause-form : goal.step_act-requires-clause-form
-step_act-requires-clause-form g c = (subst (IsWork c.args.fetched.instruction) c.in-Acts.is c.work_of.ensures).0
-
-pub step_act-requires-clause-no_visits : goal.step_act-requires-clause-no_visits
-step_act-requires-clause-no_visits g c = (subst (IsWork c.args.fetched.instruction) c.in-Acts.is c.work_of.ensures).1
-
 pub step_act-requires-clause-fetched : goal.step_act-requires-clause-fetched
-step_act-requires-clause-fetched g c = c.requires.fetched
+step_act-requires-clause-fetched g c = at_form c.args.library.now c.args.vm.now c.args.row.now c.args.fetched c.requires.fetched (fetched.acts c.in-Acts.action) c.in-Acts.is
 
 pub step_act-requires-clause-rows : goal.step_act-requires-clause-rows
 step_act-requires-clause-rows g c = c.requires.rows
 
-pub step_binary-requires-clause-operator : goal.step_binary-requires-clause-operator
-step_binary-requires-clause-operator g c = subst (IsWork c.args.fetched.instruction) c.in-Binary.is c.work_of.ensures
-
 pub step_binary-requires-clause-fetched : goal.step_binary-requires-clause-fetched
-step_binary-requires-clause-fetched g c = c.requires.fetched
+step_binary-requires-clause-fetched g c = at_form c.args.library.now c.args.vm.now c.args.row.now c.args.fetched c.requires.fetched (fetched.binary c.in-Binary.number) c.in-Binary.is
 
 pub step_binary-requires-clause-some : goal.step_binary-requires-clause-some
 step_binary-requires-clause-some g c = c.requires.some
@@ -34,13 +21,9 @@ step_binary-requires-clause-some g c = c.requires.some
 pub step_binary-requires-clause-countable : goal.step_binary-requires-clause-countable
 step_binary-requires-clause-countable g c = c.requires.countable
 
-pub step_call-requires-clause-calls : goal.step_call-requires-clause-calls
-step_call-requires-clause-calls g c = (subst (IsWork c.args.fetched.instruction) c.in-Calls.is c.work_of.ensures).1
-
 pub step_call-requires-clause-fetched : goal.step_call-requires-clause-fetched
 step_call-requires-clause-fetched g c =
-    at_form c.args.library.now c.args.vm.now c.args.row.now c.args.fetched c.requires.fetched (fetched.Number c.in-Calls.op c.in-Calls.number)
-    (subst (IsWork c.args.fetched.instruction) c.in-Calls.is c.work_of.ensures).0
+    at_form c.args.library.now c.args.vm.now c.args.row.now c.args.fetched c.requires.fetched (fetched.call c.in-Calls.op c.in-Calls.number) c.in-Calls.is
 
 pub step_call-requires-clause-rows : goal.step_call-requires-clause-rows
 step_call-requires-clause-rows g c = c.requires.rows
