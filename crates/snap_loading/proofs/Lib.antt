@@ -25,3 +25,5 @@ mod Slotting
 mod Standing
 mod Stated
 pub mod Valuing
+pub mod Besides
+pub mod Stacking
