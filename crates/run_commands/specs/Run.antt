@@ -26,7 +26,7 @@ use Rattle.command_files.specs.mpy_endings.declared.ending.Ending.{Ending}
 use Rattle.command_files.specs.mpy_endings.declared.ending.Ending.TheVariants.{Done, Unaccepted, Unread, Unverified, Unmerged}
 use Rattle.command_files.specs.mpy_endings.declared.ending.Ending.TheVariants.{Unopened, Unfrozen, Unboarded, Different, Stopped}
 use Rattle.command_files.specs.mpy_endings.declared.ending.Ending.TheVariants.{ReadFault, WriteFault, Unwritten, NoMemory, Absent}
-use Rattle.command_files.specs.mpy_endings.declared.ending.Stop.TheVariants.{Past, LibraryFault, LibraryUnaccepted, Raised, Memory, Steps, Unsaved}
+use Rattle.command_files.specs.mpy_endings.declared.ending.Stop.TheVariants.{Past, LibraryFault, LibraryUnaccepted, Raised, Memory, Steps, Unsaved, Unresumed}
 use Rattle.run_commands.specs.declared.ready.Ready.{Ready}
 use Rattle.run_commands.specs.Base.{base_of}
 use Rattle.command_files.specs.mpy_endings.Ending.{is_folder_fault, is_out_fault, status_of}
@@ -75,6 +75,7 @@ RefusesLibrary files name (Stopped Raised) = ⊥
 RefusesLibrary files name (Stopped Memory) = ⊥
 RefusesLibrary files name (Stopped (Steps count)) = ⊥
 RefusesLibrary files name (Stopped Unsaved) = ⊥
+RefusesLibrary files name (Stopped (Unresumed fault)) = ⊥
 RefusesLibrary files name ReadFault = Unit {0}
 RefusesLibrary files name WriteFault = ⊥
 RefusesLibrary files name Unwritten = ⊥
@@ -123,6 +124,7 @@ IsUnloaded (Stopped Raised) = ⊥
 IsUnloaded (Stopped Memory) = ⊥
 IsUnloaded (Stopped (Steps count)) = ⊥
 IsUnloaded (Stopped Unsaved) = ⊥
+IsUnloaded (Stopped (Unresumed fault)) = ⊥
 IsUnloaded ReadFault = Unit {0}
 IsUnloaded WriteFault = ⊥
 IsUnloaded Unwritten = ⊥
@@ -163,6 +165,7 @@ module _ (Comes : Result Ready Ending → Type 0) (room : Room) (steps : ℕ) (o
   Runs (Stopped Memory) = RanLibrary ends.Memory
   Runs (Stopped (Steps count)) = RanLibrary ends.Limit × (count ≡ steps)
   Runs (Stopped Unsaved) = ⊥
+  Runs (Stopped (Unresumed fault)) = ⊥
   Runs ReadFault = NotLoaded ReadFault
   Runs WriteFault = RanLibrary ends.WriteFault
   Runs Unwritten = ⊥

@@ -26,7 +26,7 @@ use snap_saving::{SaveFault, save};
 use std::alloc::Global;
 
 /// Writes the snapshot of a machine's state, which took these steps, under this name.
-fn save_state<F: Folder>(
+pub(crate) fn save_state<F: Folder>(
     alloc: Global,
     library: &Library,
     vm: &Vm,

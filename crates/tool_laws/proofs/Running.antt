@@ -10,7 +10,7 @@ use Rattle.run_commands.specs.library_runs.declared.ending.RunEnd.TheVariants as
 use Rattle.run_commands.specs.library_runs.Runs.{Sight, IsOver, RunsAs}
 use Rattle.mpy_endings.specs.declared.ending.Ending.{Ending}
 use Rattle.mpy_endings.specs.declared.ending.Ending.TheVariants.{Done, Unaccepted, Unread, Unverified, Unmerged, Unopened, Unfrozen, Unboarded, Different, Stopped, ReadFault, WriteFault, Unwritten, NoMemory, Absent}
-use Rattle.mpy_endings.specs.declared.ending.Stop.TheVariants.{Past, LibraryFault, LibraryUnaccepted, Raised, Memory, Steps, Unsaved}
+use Rattle.mpy_endings.specs.declared.ending.Stop.TheVariants.{Past, LibraryFault, LibraryUnaccepted, Raised, Memory, Steps, Unsaved, Unresumed}
 use Rattle.mpy_endings.specs.Ending.{IsSettled, IsRunStatus, status_of}
 use Rattle.run_commands.specs.declared.ready.Ready.{Ready}
 use Rattle.run_commands.specs.Run.{IsUnloaded, RanLibrary, Runs, Untouched, ending_of}
@@ -69,6 +69,7 @@ module _ (Comes : Result Ready Ending → Type 0) (room : Room) (steps : ℕ) (o
   run_so (Stopped Memory) s p = made ends.Memory (Stopped Memory) tt refl p
   run_so (Stopped (Steps count)) s p = made ends.Limit (Stopped (Steps count)) tt (ap (λ (n : ℕ). Stopped (Steps n)) p.1) p.0
   run_so (Stopped Unsaved) s p = absurd p
+  run_so (Stopped (Unresumed fault)) s p = absurd p
   run_so ReadFault s p = inr p
   run_so WriteFault s p = absurd s
   run_so Unwritten s p = absurd p

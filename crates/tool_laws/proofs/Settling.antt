@@ -11,7 +11,7 @@ use Rattle.manifest_files.specs.declared.frozen_fault.FrozenFault.TheVariants as
 use Rattle.mpy_endings.specs.declared.ending.Ending.{Ending}
 use Rattle.mpy_endings.specs.declared.ending.Ending.TheVariants.{Done, Unaccepted, Unread, Unverified, Unmerged, Unopened, Unfrozen, Unboarded, Different, Stopped, ReadFault, WriteFault, Unwritten, NoMemory, Absent}
 use Rattle.mpy_endings.specs.declared.ending.BoardFault.TheVariants as boards
-use Rattle.mpy_endings.specs.declared.ending.Stop.TheVariants.{Past, LibraryFault, LibraryUnaccepted, Raised, Memory, Steps, Unsaved}
+use Rattle.mpy_endings.specs.declared.ending.Stop.TheVariants.{Past, LibraryFault, LibraryUnaccepted, Raised, Memory, Steps, Unsaved, Unresumed}
 use Rattle.mpy_endings.specs.Ending.{IsSettled, IsRunStatus, status_of}
 use Rattle.command_files.specs.Outside.{Ends, EndsAt, Outside, Writes, WritesOf}
 use Rattle.run_commands.specs.declared.ready.Ready.{Ready}
@@ -44,6 +44,7 @@ settled_of (Stopped Raised) s = tt
 settled_of (Stopped Memory) s = tt
 settled_of (Stopped (Steps count)) s = tt
 settled_of (Stopped Unsaved) s = tt
+settled_of (Stopped (Unresumed fault)) s = tt
 settled_of ReadFault s = absurd (s.reads refl)
 settled_of WriteFault s = absurd (s.writes refl)
 settled_of Unwritten s = absurd (s.writes refl)
