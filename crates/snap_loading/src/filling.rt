@@ -15,7 +15,7 @@ ghost use Rattle.snap_loading.specs.Mixed.{heap_mixed, IsFilledTo};
 
 use crate::lookup::{Lookup, cell_of};
 use crate::values::value_of;
-use arena_heap::{Arena, DictNo, ListNo, TupleNo, put_in_list, tuple_fill, put_in_dict};
+use arena_heap::{Arena, DictNo, ListNo, TupleNo, put_in_dict, put_in_list, tuple_fill};
 use snap_grammar::{ObjectPart, PairPart, ValuePart};
 
 /// The item at a place.
