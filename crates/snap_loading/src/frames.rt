@@ -1,6 +1,7 @@
 //! The frames of a snapshot.
 
-ghost use Rattle.std.specs.Prelude.{◌≡◌, ◌∷◌, ◌++◌, ◌+◌, ◌<◌, ◌≤◌, ◌^◌, ℕ, All, [], length, map, drop, reverse, slice_get, Option, Some, None, IfOk, OnOk};
+ghost use Rattle.std.specs.Prelude.{◌≡◌, ◌∷◌, ◌++◌, ◌+◌, ◌<◌, ◌≤◌, ◌^◌, ℕ, All, [], length, map, drop, reverse};
+ghost use Rattle.std.specs.Prelude.{slice_get, Option, Some, None, IfOk, OnOk};
 ghost use Rattle.std.specs.Option.{option_map};
 ghost use Rattle.mpy_base.specs.declared.limits.TheConstants.{MAX_CALLS};
 ghost use Rattle.bc_library.specs.Greatest.{IsGreatestIn, ShelfHas};
@@ -43,7 +44,9 @@ fn role_of(lookup: &Lookup, role: &RolePart) -> Role
 /// The exception that an entry keeps.
 fn kept_of(lookup: &Lookup, kept: Option<u32>) -> Option<ExcNo>
     requires { IsLookup lookup.now }
-    ensures { result ≡ option_map (λ number. record { cell = parts.cell_of lookup.now.snapshot.now.objects number }) kept }
+    ensures { result ≡ option_map (λ number. record {
+      cell = parts.cell_of lookup.now.snapshot.now.objects number;
+    }) kept }
 {
     match kept {
         Some(number) => {
@@ -106,7 +109,9 @@ fn vacant(kind: Option<Kind>) -> Slot
 /// The lowest slots of an iterator, as many as that.
 fn push_iterator(frames: &mut Frames, count: u8, over: Value, at: u32)
     requires { OfRunning (λ c. length c.slots + count ≤ frames.old.slot_room) frames.old.calls }
-    ensures { frames.new ≡ on_running (λ c. record c { slots = decoded.iterator_of count over at ++ c.slots }) frames.old }
+    ensures { frames.new ≡ on_running (λ c. record c {
+      slots = decoded.iterator_of count over at ++ c.slots;
+    }) frames.old }
 {
     for part in 0..count {
         frames.push(Slot::Iter { over, at, part });
@@ -117,8 +122,12 @@ fn push_iterator(frames: &mut Frames, count: u8, over: Value, at: u32)
 fn push_part(frames: &mut Frames, lookup: &Lookup, kind: Option<Kind>, part: &SlotPart)
     requires lookup { IsLookup lookup.now }
     requires fits { FitsSlot part.now }
-    requires room { OfRunning (λ c. length c.slots + length (decoded.slots_of lookup.now.library.now lookup.now.snapshot.now kind part.now) ≤ frames.old.slot_room) frames.old.calls }
-    ensures { frames.new ≡ on_running (λ c. record c { slots = decoded.slots_of lookup.now.library.now lookup.now.snapshot.now kind part.now ++ c.slots }) frames.old }
+    requires room { OfRunning (λ c.
+        length c.slots + length (decoded.slots_of lookup.now.library.now lookup.now.snapshot.now kind part.now)
+        ≤ frames.old.slot_room) frames.old.calls }
+    ensures { frames.new ≡ on_running (λ c. record c {
+      slots = decoded.slots_of lookup.now.library.now lookup.now.snapshot.now kind part.now ++ c.slots;
+    }) frames.old }
 {
     match part {
         SlotPart::Value(v) => {
@@ -190,7 +199,8 @@ fn push_slots(frames: &mut Frames, lookup: &Lookup, kinds: &[Kind], parts: &[Slo
     requires room { OfRunning (λ c. length c.slots + slots_in parts.now ≤ frames.old.slot_room) frames.old.calls }
     ensures { (taken : ℕ) → taken + slots_in parts.now ≡ length kinds.now
         → frames.new ≡ on_running (λ c. record c {
-          slots = stack_of lookup.now.library.now lookup.now.snapshot.now (drop taken kinds.now) (reverse parts.now) ++ c.slots;
+          slots = stack_of lookup.now.library.now lookup.now.snapshot.now (drop taken kinds.now) (reverse parts.now)
+              ++ c.slots;
         }) frames.old }
 {
     let mut left = kinds.len();
@@ -231,7 +241,10 @@ fn add_entries(frames: &mut Frames, lookup: &Lookup, parts: &[EntryPart])
     requires lookup { IsLookup lookup.now }
     requires room { OfRunning (λ c. length c.entries + length parts.now ≤ frames.old.entry_room) frames.old.calls }
     requires low { (at : ℕ) (part : EntryOf) → slice_get parts.now at ≡ Some part → part.height < frames.old.slot_room }
-    ensures { frames.new ≡ on_running (λ c. record c { entries = map (decoded.handler_of lookup.now.library.now lookup.now.snapshot.now) (reverse parts.now) ++ c.entries }) frames.old }
+    ensures { frames.new ≡ on_running (λ c. record c {
+      entries = map (decoded.handler_of lookup.now.library.now lookup.now.snapshot.now) (reverse parts.now)
+          ++ c.entries;
+    }) frames.old }
 {
     for at in 0..parts.len() {
         let part = entry_at(parts, at);
@@ -246,7 +259,8 @@ fn put_frame(frames: &mut Frames, lookup: &Lookup, kinds: &[Kind], frame: &Frame
     requires shallow { length frames.old.calls < MAX_CALLS }
     requires place { HasPlace frames.old.slot_room frames.old.entry_room (length kinds.now) frame.now }
     ensures { (taken : ℕ) → taken + slots_in frame.now.slots ≡ length kinds.now → frames.new ≡ record frames.old {
-      calls = call_of lookup.now.library.now lookup.now.snapshot.now (drop taken kinds.now) frame.now ∷ frames.old.calls;
+      calls = call_of lookup.now.library.now lookup.now.snapshot.now (drop taken kinds.now) frame.now
+          ∷ frames.old.calls;
     } }
 {
     frames.room_law();
@@ -278,7 +292,8 @@ fn put_next(
     requires rows { rows.now ≡ lookup.now.library.now }
     requires room { HasRoomFor lookup.now.library.now frames.old }
     requires shallow { length frames.old.calls < MAX_CALLS }
-    requires fine { (above : Option RoleOf) × IsFineFrame lookup.now.library.now lookup.now.snapshot.now above frame.now }
+    requires fine { (above : Option RoleOf)
+        × IsFineFrame lookup.now.library.now lookup.now.snapshot.now above frame.now }
     ensures { OnOk result ((c : Call) × IsCallOf lookup.now.library.now lookup.now.snapshot.now frame.now c
         × (frames.new ≡ record frames.old { calls = c ∷ frames.old.calls })) }
 {
@@ -318,7 +333,8 @@ fn put_frames(
     requires shaped { IsShaped lookup.now.library.now lookup.now.snapshot.now }
     requires room { HasRoomFor lookup.now.library.now frames.old }
     requires none { frames.old.calls ≡ [] }
-    ensures calls { OnOk result (AreCallsOf lookup.now.library.now lookup.now.snapshot.now (reverse lookup.now.snapshot.now.frames) frames.new.calls) }
+    ensures calls { OnOk result (AreCallsOf lookup.now.library.now lookup.now.snapshot.now
+        (reverse lookup.now.snapshot.now.frames) frames.new.calls) }
     ensures rooms { OnOk result (frames.new ≡ record frames.old { calls = frames.new.calls }) }
 {
     let parts = lookup.snapshot.frames.as_slice();
@@ -329,8 +345,8 @@ fn put_frames(
     Ok(())
 }
 
-/// The calls that a snapshot stands for, with a slot more, and as many entries, in each as a code of the library takes at most. In a
-/// time that grows with the frames and, for each, with its code. It takes all memory of the calls here.
+/// The calls that a snapshot stands for, with a slot more, and as many entries, in each as a code of the library takes
+/// at most. In a time that grows with the frames and, for each, with its code. It takes all memory of the calls here.
 pub(crate) fn frames_of(
     alloc: Global,
     lookup: &Lookup,
@@ -343,7 +359,8 @@ pub(crate) fn frames_of(
     requires shaped { IsShaped lookup.now.library.now lookup.now.snapshot.now }
     requires greatest { IsGreatestIn (ShelfHas lookup.now.library.now) slots entries }
     requires few { slots ≤ 4096 }
-    ensures calls { IfOk result (λ frames. AreCallsOf lookup.now.library.now lookup.now.snapshot.now (reverse lookup.now.snapshot.now.frames) frames.calls) }
+    ensures calls { IfOk result (λ frames. AreCallsOf lookup.now.library.now lookup.now.snapshot.now
+        (reverse lookup.now.snapshot.now.frames) frames.calls) }
     ensures slot_room { IfOk result (λ frames. frames.slot_room ≡ slots + 1) }
     ensures entry_room { IfOk result (λ frames. frames.entry_room ≡ entries) }
 {
