@@ -8,8 +8,8 @@ use Rattle.snap_states.specs.Decoded.{IsDecoded}
 use Rattle.snap_states.specs.States.{IsStateOf}
 use Rattle.vm_machine.specs.vm_starting.declared.opening.Vm.{Vm}
 
--- the bytes spell a state of the library, which has not ended, and the machine stands there: its own snapshot is that one, and it is
--- what that one stands for
+-- the bytes spell a state of the library, which has not ended, and the machine stands there: its own snapshot is that
+-- one, and it is what that one stands for
 pub record IsLoaded (shelf : Shelf) (bytes : List ℕ) (vm : Vm) : Type 0 where
   pub goes_on : vm.end ≡ None
   pub s : Snapshot

@@ -1,7 +1,8 @@
 //! Lists, dicts and tuples get what a snapshot says that they hold.
 
 ghost use Rattle.std.specs.Prelude.{◌≡◌, ◌<◌, ◌≤◌, ◌^◌, [], ℕ, zero, suc, length, map, Some, replicate, slice_get};
-ghost use Rattle.mpy_base.specs.World.{Heap, ListObject, TupleObject, DictObject, object, items_at, room_at, with_list, with_tuple, with_dict};
+ghost use Rattle.mpy_base.specs.World.{Heap, ListObject, TupleObject, DictObject, object, room_at};
+ghost use Rattle.mpy_base.specs.World.{with_list, with_tuple, with_dict};
 ghost use Rattle.arena_heap.specs.declared.value.Value.TheVariants as values;
 ghost use Rattle.arena_heap.specs.Values.{IsKey, Leads};
 ghost use Rattle.bc_library.specs.bc_verify.qstr_pool.declared.table.TheConstants.{FIRST_OWN};
@@ -40,8 +41,10 @@ fn fill_list(arena: &mut Arena, lookup: &Lookup, l: ListNo, items: &[ValuePart])
     requires few { length items.now < 2 ^ 32 }
     requires begun { object arena.old.objects l.cell ≡ Some (ListObject [] (room_at arena.old l.cell)) }
     requires room { length items.now ≤ room_at arena.old l.cell }
-    requires leads { (at : ℕ) (part : ValuePart) → slice_get items.now at ≡ Some part → Leads arena.old.objects (decoded.value_of lookup.now.library.now lookup.now.snapshot.now part) }
-    ensures { arena.new ≡ with_list arena.old l.cell (map (decoded.value_of lookup.now.library.now lookup.now.snapshot.now) items.now) }
+    requires leads { (at : ℕ) (part : ValuePart) → slice_get items.now at ≡ Some part
+        → Leads arena.old.objects (decoded.value_of lookup.now.library.now lookup.now.snapshot.now part) }
+    ensures { arena.new
+        ≡ with_list arena.old l.cell (map (decoded.value_of lookup.now.library.now lookup.now.snapshot.now) items.now) }
 {
     for at in 0..items.len() {
         let item = item_at(items, at);
@@ -55,8 +58,10 @@ fn fill_tuple(arena: &mut Arena, lookup: &Lookup, t: TupleNo, items: &[ValuePart
     requires lookup { IsLookup lookup.now }
     requires few { length items.now < 2 ^ 32 }
     requires begun { object arena.old.objects t.cell ≡ Some (TupleObject (replicate (length items.now) values.None)) }
-    requires leads { (at : ℕ) (part : ValuePart) → slice_get items.now at ≡ Some part → Leads arena.old.objects (decoded.value_of lookup.now.library.now lookup.now.snapshot.now part) }
-    ensures { arena.new ≡ with_tuple arena.old t.cell (map (decoded.value_of lookup.now.library.now lookup.now.snapshot.now) items.now) }
+    requires leads { (at : ℕ) (part : ValuePart) → slice_get items.now at ≡ Some part
+        → Leads arena.old.objects (decoded.value_of lookup.now.library.now lookup.now.snapshot.now part) }
+    ensures { arena.new
+        ≡ with_tuple arena.old t.cell (map (decoded.value_of lookup.now.library.now lookup.now.snapshot.now) items.now) }
 {
     for at in 0..items.len() {
         let item = item_at(items, at);
@@ -71,10 +76,14 @@ fn fill_dict(arena: &mut Arena, lookup: &Lookup, d: DictNo, pairs: &[PairPart])
     requires few { length pairs.now < 2 ^ 32 }
     requires begun { object arena.old.objects d.cell ≡ Some (DictObject [] (room_at arena.old d.cell)) }
     requires room { length pairs.now ≤ room_at arena.old d.cell }
-    requires keys { (at : ℕ) (part : PairPart) → slice_get pairs.now at ≡ Some part → IsKey (decoded.value_of lookup.now.library.now lookup.now.snapshot.now part.key) }
-    requires keys_lead { (at : ℕ) (part : PairPart) → slice_get pairs.now at ≡ Some part → Leads arena.old.objects (decoded.value_of lookup.now.library.now lookup.now.snapshot.now part.key) }
-    requires leads { (at : ℕ) (part : PairPart) → slice_get pairs.now at ≡ Some part → Leads arena.old.objects (decoded.value_of lookup.now.library.now lookup.now.snapshot.now part.value) }
-    ensures { arena.new ≡ with_dict arena.old d.cell (map (decoded.pair_of lookup.now.library.now lookup.now.snapshot.now) pairs.now) }
+    requires keys { (at : ℕ) (part : PairPart) → slice_get pairs.now at ≡ Some part
+        → IsKey (decoded.value_of lookup.now.library.now lookup.now.snapshot.now part.key) }
+    requires keys_lead { (at : ℕ) (part : PairPart) → slice_get pairs.now at ≡ Some part
+        → Leads arena.old.objects (decoded.value_of lookup.now.library.now lookup.now.snapshot.now part.key) }
+    requires leads { (at : ℕ) (part : PairPart) → slice_get pairs.now at ≡ Some part
+        → Leads arena.old.objects (decoded.value_of lookup.now.library.now lookup.now.snapshot.now part.value) }
+    ensures { arena.new
+        ≡ with_dict arena.old d.cell (map (decoded.pair_of lookup.now.library.now lookup.now.snapshot.now) pairs.now) }
 {
     for at in 0..pairs.len() {
         let pair = pair_at(pairs, at);

@@ -25,8 +25,8 @@ use snap_states::is_shaped;
 use std::alloc::Global;
 use vm_machine::{Rows, Vm};
 
-/// Whether the snapshot is a state of the library as far as is known before its machine is made. It takes no memory of what the
-/// snapshot asks for.
+/// Whether the snapshot is a state of the library as far as is known before its machine is made. It takes no memory of
+/// what the snapshot asks for.
 fn is_possible(
     alloc: Global,
     library: &Library,
@@ -72,7 +72,8 @@ fn machine_at(
     requires fits { Fits snapshot.now }
     ensures loaded { IfOk result (IsLoaded library.now (spelling snapshot.now)) }
     ensures ready { IfOk result (IsVm library.now) }
-    ensures fault { (fault : Fault) → IsErrOf result (refused.Fault fault) → (fault ≡ faults.BadState) × (IsStateOf library.now snapshot.now → ⊥) }
+    ensures fault { (fault : Fault) → IsErrOf result (refused.Fault fault)
+        → (fault ≡ faults.BadState) × (IsStateOf library.now snapshot.now → ⊥) }
 {
     library_law(library);
     titles_law(library, rows);
@@ -100,13 +101,14 @@ fn machine_for(
     requires fits { Fits snapshot }
     ensures loaded { IfOk result (IsLoaded library.now (spelling snapshot)) }
     ensures ready { IfOk result (IsVm library.now) }
-    ensures fault { (fault : Fault) → IsErrOf result (refused.Fault fault) → (fault ≡ faults.BadState) × (IsStateOf library.now snapshot → ⊥) }
+    ensures fault { (fault : Fault) → IsErrOf result (refused.Fault fault)
+        → (fault ≡ faults.BadState) × (IsStateOf library.now snapshot → ⊥) }
 {
     machine_at(alloc, library, rows, &snapshot)
 }
 
-/// The machine of the library that stands at the state which the bytes spell. It takes all its memory here, and a time that grows
-/// with the library, the bytes and the room of the snapshot.
+/// The machine of the library that stands at the state which the bytes spell. It takes all its memory here, and a time
+/// that grows with the library, the bytes and the room of the snapshot.
 pub fn load(
     alloc: Global,
     library: &Library,
@@ -119,7 +121,8 @@ pub fn load(
     ensures ready { IfOk result (IsVm library.now) }
     ensures header { IsErrOf result (refused.Fault faults.BadHeader) ↔ (BeginsSo bytes.now → ⊥) }
     ensures form { IsErrOf result (refused.Fault faults.BadForm) → (s : Whole) → Fits s → bytes.now ≡ spelling s → ⊥ }
-    ensures state { IsErrOf result (refused.Fault faults.BadState) → (s : Whole) × Fits s × (bytes.now ≡ spelling s) × (IsStateOf library.now s → ⊥) }
+    ensures state { IsErrOf result (refused.Fault faults.BadState)
+        → (s : Whole) × Fits s × (bytes.now ≡ spelling s) × (IsStateOf library.now s → ⊥) }
 {
     match read(alloc, bytes) {
         Ok(snapshot) => machine_for(alloc, library, rows, snapshot),

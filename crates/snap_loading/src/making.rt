@@ -38,7 +38,8 @@ fn name_in(object: Option<&ObjectPart>) -> &[u8]
 
 /// The number of the name that the object of a number has as a module.
 fn object_name(lookup: &Lookup, number: u32) -> u32
-    ensures { result ≡ decoded.name_number lookup.now.library.now (decoded.name_in_part (slice_get lookup.now.snapshot.now.objects number)) }
+    ensures { result
+        ≡ decoded.name_number lookup.now.library.now (decoded.name_in_part (slice_get lookup.now.snapshot.now.objects number)) }
 {
     let object = lookup.snapshot.objects.get(number as usize);
     name_number(lookup.library, name_in(object))
@@ -103,7 +104,8 @@ pub(crate) fn machine_of(
     ensures vm { IfOk result (IsVm library.now) }
     ensures goes_on { IfOk result (λ vm. vm.end ≡ None) }
     ensures paid { IfOk result (λ vm. vm.paid ≡ snapshot.now.paid) }
-    ensures decoded { IfOk result (λ vm. decoded.IsDecoded library.now snapshot.now vm.arena vm.modules vm.frames.calls) }
+    ensures decoded { IfOk result (λ vm.
+        decoded.IsDecoded library.now snapshot.now vm.arena vm.modules vm.frames.calls) }
 {
     library_law(library);
     titles_law(library, rows);

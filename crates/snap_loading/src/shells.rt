@@ -116,7 +116,8 @@ pub(crate) fn shells_of<'a>(
     requires few { cells_of_parts lookup.now.snapshot.now.objects < 2 ^ 32 }
     requires fine { AreFineObjects lookup.now.library.now lookup.now.snapshot.now }
     ensures objects { IfOk result (λ shells. (title : ℕ → ℕ → ℕ) → decoded.AreTitles lookup.now.library.now title
-        → map shell_object shells.items ≡ map (shell_of lookup.now.library.now lookup.now.snapshot.now title) lookup.now.snapshot.now.objects) }
+        → map shell_object shells.items
+        ≡ map (shell_of lookup.now.library.now lookup.now.snapshot.now title) lookup.now.snapshot.now.objects) }
     ensures rooms { IfOk result (λ shells. All HasRoom shells.items) }
 {
     let objects = lookup.snapshot.objects.as_slice();

@@ -1,6 +1,7 @@
 //! The constant strs of a library by their texts.
 
-ghost use Rattle.std.specs.Prelude.{◌≡◌, ℕ, List, Some, None, IfOk, OnOk, bytes_eq, position, slice_get, if◌then◌else◌, length};
+ghost use Rattle.std.specs.Prelude.{◌≡◌, ℕ, List, Some, None, IfOk, OnOk, length};
+ghost use Rattle.std.specs.Prelude.{bytes_eq, position, slice_get, if◌then◌else◌};
 ghost use Rattle.std.specs.Option.{option_map, option_or};
 ghost use Rattle.bc_library.specs.Constants.{constants_of, numbered};
 ghost use Rattle.bc_library.specs.Shelf.{Named, module_at};
@@ -46,8 +47,10 @@ fn add_constant(
     library: &Library,
     number: ConstNo,
 ) -> Result<(), NoMemory>
-    ensures { OnOk result ((n : Named) (x : Constant) → slice_get library.now.modules number.«module» ≡ Some n → slice_get (constants_of n.held) number.object ≡ Some x
-        → (other : List ℕ) → beside strs.new.entries other ≡ option_or (beside strs.old.entries other) (if is_str other x then Some number else None)) }
+    ensures { OnOk result ((n : Named) (x : Constant) → slice_get library.now.modules number.«module» ≡ Some n
+        → slice_get (constants_of n.held) number.object ≡ Some x
+        → (other : List ℕ) → beside strs.new.entries other
+        ≡ option_or (beside strs.old.entries other) (if is_str other x then Some number else None)) }
 {
     match library.text(StrNo::Object(number)) {
         Some(text) => {
@@ -67,8 +70,10 @@ fn add_module(
     count: u32,
 ) -> Result<(), NoMemory>
     requires { option_map (λ m. length (constants_of m)) (module_at library.now module_number) ≡ Some count }
-    ensures { OnOk result ((n : Named) → slice_get library.now.modules module_number ≡ Some n → (other : List ℕ) → beside strs.new.entries other
-        ≡ option_or (beside strs.old.entries other) (option_map (numbered module_number) (position (is_str other) (constants_of n.held)))) }
+    ensures { OnOk result ((n : Named) → slice_get library.now.modules module_number ≡ Some n → (other : List ℕ)
+        → beside strs.new.entries other
+        ≡ option_or (beside strs.old.entries other)
+        (option_map (numbered module_number) (position (is_str other) (constants_of n.held)))) }
 {
     for object in 0..count {
         add_constant(
@@ -96,7 +101,8 @@ fn few(count: usize) -> Result<u32, NoMemory>
 
 /// The strs among the constants of the library's modules. A module with 2^32 constants is answered as want of memory.
 pub(crate) fn strs_of(alloc: Global, library: &Library) -> Result<Strs, NoMemory>
-    ensures { IfOk result (λ strs. (text : List ℕ) → beside strs.entries text ≡ constant_from 0 library.now.modules text) }
+    ensures { IfOk result (λ strs. (text : List ℕ)
+        → beside strs.entries text ≡ constant_from 0 library.now.modules text) }
 {
     library_law(library);
     let mut strs = IndexMap::new(alloc);

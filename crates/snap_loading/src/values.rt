@@ -16,7 +16,8 @@ use snap_states::builtin_called;
 /// A constant of this text.
 fn constant_str(lookup: &Lookup, text: &[u8]) -> StrNo
     requires { IsLookup lookup.now }
-    ensures { result ≡ unwrap_or (option_map StrNo.Object (decoded.constant_from 0 lookup.now.library.now.modules text.now)) (StrNo.Pool 0) }
+    ensures { result
+        ≡ unwrap_or (option_map StrNo.Object (decoded.constant_from 0 lookup.now.library.now.modules text.now)) (StrNo.Pool 0) }
 {
     match str_number(&lookup.strs, text) {
         Some(number) => StrNo::Object(number),
