@@ -11,11 +11,11 @@ use Rattle.command_files.specs.mpy_endings.image_open.Opens.{Opens}
 use Rattle.command_files.specs.mpy_endings.image_open.image_grammar.Base.{base_of as base_below}
 use Rattle.command_files.specs.mpy_endings.image_open.image_grammar.Opening.{FirstFault}
 use Rattle.snap_loading.specs.Loaded.{IsLoaded}
-use Rattle.snap_loading.specs.snap_grammar.declared.fault.SnapFault.{SnapFault}
-use Rattle.snap_loading.specs.snap_grammar.declared.fault.SnapFault.TheVariants.{BadHeader, BadForm, BadState}
-use Rattle.snap_loading.specs.snap_grammar.declared.parts.Snapshot.{Snapshot}
-use Rattle.snap_loading.specs.snap_grammar.Reading.{BeginsSo}
-use Rattle.snap_loading.specs.snap_grammar.Spelling.{Fits, spelling}
+use Rattle.snap_grammar.specs.declared.fault.SnapFault.{SnapFault}
+use Rattle.snap_grammar.specs.declared.fault.SnapFault.TheVariants.{BadHeader, BadForm, BadState}
+use Rattle.snap_grammar.specs.declared.parts.Snapshot.{Snapshot}
+use Rattle.snap_grammar.specs.Reading.{BeginsSo}
+use Rattle.snap_grammar.specs.Spelling.{Fits, spelling}
 use Rattle.snap_loading.specs.snap_states.States.{IsStateOf}
 use Rattle.library_runs.specs.vm_starting.declared.opening.Vm.{Vm}
 use Rattle.library_runs.specs.vm_machine.Machine.{IsVm}

@@ -29,7 +29,8 @@ use library_runs::{Rows, Vm, run_on};
 use mpy_base::{NoMemory, Refused};
 use mpy_io::{Folder, Port, ReadFault, Sink};
 use port_set::PortSet;
-use snap_loading::{SnapFault, load};
+use snap_grammar::SnapFault;
+use snap_loading::load;
 use std::alloc::Global;
 
 /// The library of an image over the library below, or what keeps it from being opened.

@@ -15,24 +15,24 @@ use Rattle.run_commands.proofs.resuming.go_on.Goals as goal
 -- no file to save to is given
 -- ===========================
 
-pub returns-in-None-clause-went : goal.returns-in-None-clause-went
-returns-in-None-clause-went g c =
+pub returns-in_default-clause-went : goal.returns-in_default-clause-went
+returns-in_default-clause-went g c =
     let old = sight g.S.Sink.told g.P.Port.seen c.args.out.now c.args.ports.now in
     let new = sight g.S.Sink.told g.P.Port.seen c.run_on-end.new.out c.run_on-end.new.ports in
     let files = g.F.Folder.files c.args.folder.now in
     let words = map string_bytes c.args.words.now in
     let ran = c.run_on-end.ensures.runs in (
       ran.0,
-      subst (λ (save : Option ℕ). WentOn c.args.library.now c.args.vm c.args.steps old new ran.0 files files (saved_name words save) c.ending_of.result) (sym c.in-None.is)
+      subst (λ (save : Option ℕ). WentOn c.args.library.now c.args.vm c.args.steps old new ran.0 files files (saved_name words save) c.ending_of.result) (sym c.in_default.is)
           (record { end = c.run_on-end.result.0; went = ran.1; is = c.ending_of.ensures; files = refl }),
       ran.2,
     )
 
-pub returns-in-None-clause-flushed : goal.returns-in-None-clause-flushed
-returns-in-None-clause-flushed g c = λ s. c.run_on-end.ensures.flushed (run_over c.run_on-end.result.0 c.args.steps c.ending_of.result c.ending_of.ensures s)
+pub returns-in_default-clause-flushed : goal.returns-in_default-clause-flushed
+returns-in_default-clause-flushed g c = λ s. c.run_on-end.ensures.flushed (run_over c.run_on-end.result.0 c.args.steps c.ending_of.result c.ending_of.ensures s)
 
-pub returns-in-None-clause-handed_on : goal.returns-in-None-clause-handed_on
-returns-in-None-clause-handed_on g c = λ s. absurd (not_unsaved c.run_on-end.result.0 c.args.steps c.ending_of.result c.ending_of.ensures s)
+pub returns-in_default-clause-handed_on : goal.returns-in_default-clause-handed_on
+returns-in_default-clause-handed_on g c = λ s. absurd (not_unsaved c.run_on-end.result.0 c.args.steps c.ending_of.result c.ending_of.ensures s)
 
 -- it took all its steps
 -- =====================
@@ -90,20 +90,20 @@ returns-in-Some-left-clause-out_counts g c =
 -- it ended before
 -- ===============
 
-pub returns-in-Some-clause-went : goal.returns-in-Some-clause-went
-returns-in-Some-clause-went g c =
+pub returns-in-None-clause-went : goal.returns-in-None-clause-went
+returns-in-None-clause-went g c =
     let old = sight g.S.Sink.told g.P.Port.seen c.args.out.now c.args.ports.now in
     let new = sight g.S.Sink.told g.P.Port.seen c.run_on-end.new.out c.run_on-end.new.ports in
     let files = g.F.Folder.files c.args.folder.now in
     let end = c.run_on-end.result.0 in
     let words = map string_bytes c.args.words.now in
     let ran = c.run_on-end.ensures.runs in
-    let other = subst (λ (o : Option Vm). MatchOption o (end ≢ ends.Limit) (λ vm. (end ≡ ends.Limit) × StandsOn c.args.library.now c.args.vm c.args.steps old new vm)) c.in-None-left.is c.run_on-end.ensures.leaves in (
+    let other = subst (λ (o : Option Vm). MatchOption o (end ≢ ends.Limit) (λ vm. (end ≡ ends.Limit) × StandsOn c.args.library.now c.args.vm c.args.steps old new vm)) c.in-None.is c.run_on-end.ensures.leaves in (
       ran.0,
-      subst (λ (save : Option ℕ). WentOn c.args.library.now c.args.vm c.args.steps old new ran.0 files files (saved_name words save) c.ending_of-2.result) (sym c.in-Some.is)
-          (inl (record { end = end; went = ran.1; is = c.ending_of-2.ensures; files = refl }, other)),
+      subst (λ (save : Option ℕ). WentOn c.args.library.now c.args.vm c.args.steps old new ran.0 files files (saved_name words save) c.ending_of-in-None.result) (sym c.in-Some.is)
+          (inl (record { end = end; went = ran.1; is = c.ending_of-in-None.ensures; files = refl }, other)),
       ran.2,
     )
 
-pub returns-in-Some-clause-handed_on : goal.returns-in-Some-clause-handed_on
-returns-in-Some-clause-handed_on g c = λ s. absurd (not_unsaved c.run_on-end.result.0 c.args.steps c.ending_of-2.result c.ending_of-2.ensures s)
+pub returns-in-None-clause-handed_on : goal.returns-in-None-clause-handed_on
+returns-in-None-clause-handed_on g c = λ s. absurd (not_unsaved c.run_on-end.result.0 c.args.steps c.ending_of-in-None.result c.ending_of-in-None.ensures s)

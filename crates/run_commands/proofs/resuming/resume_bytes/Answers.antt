@@ -56,8 +56,8 @@ returns-in-Err-load_state-clause-went g c =
     let words = map string_bytes c.args.words.now in
     let files = g.F.Folder.files c.args.folder.now in (
       [],
-      is_refused (second_name words) words c.args.save c.args.steps here here [] files files c.args.library.now c.in-Err-load_state.ending c.not_resumed-2.result.ending c.not_resumed-2.result.place
-          c.not_resumed-2.ensures.ending c.not_resumed-2.ensures.place (c.in-Err-load_state.ensures.refused files (second_name words) c.requires.read) (untouched here here refl) refl,
+      is_refused (second_name words) words c.args.save c.args.steps here here [] files files c.args.library.now c.in-Err-load_state.ending c.not_resumed-in-Err-load_state.result.ending c.not_resumed-in-Err-load_state.result.place
+          c.not_resumed-in-Err-load_state.ensures.ending c.not_resumed-in-Err-load_state.ensures.place (c.in-Err-load_state.ensures.refused files (second_name words) c.requires.read) (untouched here here refl) refl,
       says_nothing (g.E.Sink.told c.args.say.now) (g.E.Sink.count c.args.say.now),
     )
 
@@ -66,18 +66,18 @@ returns-in-Err-load_state-clause-flushed g c = λ s.
     let files = g.F.Folder.files c.args.folder.now in
     let snap = second_name (map string_bytes c.args.words.now) in
     absurd (refused_unrun c.args.library.now files snap c.in-Err-load_state.ending (c.in-Err-load_state.ensures.refused files snap c.requires.read)
-    (subst (λ (e : Ending). IsRunStatus (status_of e)) c.not_resumed-2.ensures.ending s))
+    (subst (λ (e : Ending). IsRunStatus (status_of e)) c.not_resumed-in-Err-load_state.ensures.ending s))
 
 pub returns-in-Err-load_state-clause-handed_on : goal.returns-in-Err-load_state-clause-handed_on
 returns-in-Err-load_state-clause-handed_on g c = λ s.
     let files = g.F.Folder.files c.args.folder.now in
     let snap = second_name (map string_bytes c.args.words.now) in
-    absurd (refused_unsaved c.args.library.now files snap c.in-Err-load_state.ending (c.in-Err-load_state.ensures.refused files snap c.requires.read) (sym c.not_resumed-2.ensures.ending ∙ s))
+    absurd (refused_unsaved c.args.library.now files snap c.in-Err-load_state.ending (c.in-Err-load_state.ensures.refused files snap c.requires.read) (sym c.not_resumed-in-Err-load_state.ensures.ending ∙ s))
 
 pub returns-in-Err-load_state-clause-folder_counts : goal.returns-in-Err-load_state-clause-folder_counts
 returns-in-Err-load_state-clause-folder_counts g c =
     let count = g.F.Folder.count c.args.folder.now in
-    subst (λ (e : Ending). Counts count count (is_folder_fault e)) (sym c.not_resumed-2.ensures.ending)
+    subst (λ (e : Ending). Counts count count (is_folder_fault e)) (sym c.not_resumed-in-Err-load_state.ensures.ending)
     (subst (λ (b : Bool). Counts count count b) (sym c.in-Err-load_state.ensures.read) refl)
 
 pub returns-in-Err-load_state-clause-out_counts : goal.returns-in-Err-load_state-clause-out_counts
@@ -85,7 +85,7 @@ returns-in-Err-load_state-clause-out_counts g c =
     let count = g.S.Sink.count c.args.out.now in
     let files = g.F.Folder.files c.args.folder.now in
     let snap = second_name (map string_bytes c.args.words.now) in
-    subst (λ (e : Ending). Counts count count (is_out_fault e)) (sym c.not_resumed-2.ensures.ending)
+    subst (λ (e : Ending). Counts count count (is_out_fault e)) (sym c.not_resumed-in-Err-load_state.ensures.ending)
     (subst (λ (b : Bool). Counts count count b) (sym (refused_quiet c.args.library.now files snap c.in-Err-load_state.ending (c.in-Err-load_state.ensures.refused files snap c.requires.read))) refl)
 
 -- it went on
