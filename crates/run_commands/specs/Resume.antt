@@ -16,7 +16,7 @@ use Rattle.snap_grammar.specs.declared.fault.SnapFault.TheVariants.{BadHeader, B
 use Rattle.snap_grammar.specs.declared.parts.Snapshot.{Snapshot}
 use Rattle.snap_grammar.specs.Reading.{BeginsSo}
 use Rattle.snap_grammar.specs.Spelling.{Fits, spelling}
-use Rattle.snap_loading.specs.snap_states.States.{IsStateOf}
+use Rattle.snap_states.specs.States.{IsStateOf}
 use Rattle.library_runs.specs.vm_starting.declared.opening.Vm.{Vm}
 use Rattle.library_runs.specs.vm_machine.Machine.{IsVm}
 use Rattle.library_runs.specs.declared.ending.RunEnd.{RunEnd}

@@ -12,11 +12,11 @@ use Rattle.mpy_endings.specs.declared.ending.Stop.TheVariants.{Past, LibraryFaul
 use Rattle.image_runs.specs.declared.fault.MainFault.TheVariants as mains
 use Rattle.mpy_endings.specs.Ending.{IsRunStatus, status_of}
 use Rattle.command_files.specs.Outside.{Outside}
-use Rattle.run_commands.specs.library_runs.Runs.{Sight}
-use Rattle.run_commands.specs.declared.ready.Ready.{Ready}
-use Rattle.run_commands.specs.Ready.{RunLibrary}
-use Rattle.run_commands.specs.Run.{EndsRun, Runs}
-use Rattle.run_commands.specs.Save.{EndsRunTo, RunsSaving}
+use Rattle.meant_commands.specs.run_commands.library_runs.Runs.{Sight}
+use Rattle.meant_commands.specs.run_commands.declared.ready.Ready.{Ready}
+use Rattle.meant_commands.specs.run_commands.Ready.{RunLibrary}
+use Rattle.meant_commands.specs.run_commands.Run.{EndsRun, Runs}
+use Rattle.meant_commands.specs.run_commands.Save.{EndsRunTo, RunsSaving}
 use Rattle.meant_commands.specs.Meant.{HoldsProgram, RunMeans}
 use Rattle.tool_laws.specs.Programs.{AreProgramFiles, IsProgramOfFiles, MeansFiles, RunMeansFiles}
 

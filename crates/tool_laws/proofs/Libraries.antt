@@ -28,11 +28,11 @@ use Rattle.command_files.specs.Folder.{IsNotRead}
 use Rattle.command_files.specs.Opened.{HoldsModule}
 use Rattle.command_files.specs.Source.{HoldsFaulty}
 use Rattle.command_files.proofs.Long.{not_read as refuses_unread}
-use Rattle.run_commands.specs.declared.ready.Ready.{Ready}
-use Rattle.run_commands.specs.Base.{base_of}
-use Rattle.run_commands.specs.Go.{RefusesSources, SourceLoadsOf}
-use Rattle.run_commands.specs.Ready.{FirstOf, GoLibrary, ImageStart, IsFirst, RunLibrary, begins_image, not_read, of_file, of_image}
-use Rattle.run_commands.specs.Run.{FileLibrary, HoldsMain, LoadsOf, RefusesLibrary}
+use Rattle.meant_commands.specs.run_commands.declared.ready.Ready.{Ready}
+use Rattle.meant_commands.specs.run_commands.Base.{base_of}
+use Rattle.meant_commands.specs.run_commands.Go.{RefusesSources, SourceLoadsOf}
+use Rattle.meant_commands.specs.run_commands.Ready.{FirstOf, GoLibrary, ImageStart, IsFirst, RunLibrary, begins_image, not_read, of_file, of_image}
+use Rattle.meant_commands.specs.run_commands.Run.{FileLibrary, HoldsMain, LoadsOf, RefusesLibrary}
 use Rattle.tool_laws.specs.Laws.{FileLaws, ImageLaws, LoadLaws, SourceLaws}
 use Rattle.tool_laws.specs.Runs.{AnswersOnce, IsSettledAnswer}
 use Rattle.tool_laws.proofs.ImageFiles.{never_faulty, never_long}

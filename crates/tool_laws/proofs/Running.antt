@@ -5,15 +5,15 @@ use Rattle.std.specs.Io.KnownBytes.{Keeps}
 use Rattle.mpy_base.specs.declared.room.Room.{Room}
 use Rattle.mpy_io.specs.Ports.{PortView}
 use Rattle.port_set.specs.Counts.{AreAccounted}
-use Rattle.run_commands.specs.library_runs.declared.ending.RunEnd.{RunEnd}
-use Rattle.run_commands.specs.library_runs.declared.ending.RunEnd.TheVariants as ends
-use Rattle.run_commands.specs.library_runs.Runs.{Sight, IsOver, RunsAs}
+use Rattle.meant_commands.specs.run_commands.library_runs.declared.ending.RunEnd.{RunEnd}
+use Rattle.meant_commands.specs.run_commands.library_runs.declared.ending.RunEnd.TheVariants as ends
+use Rattle.meant_commands.specs.run_commands.library_runs.Runs.{Sight, IsOver, RunsAs}
 use Rattle.mpy_endings.specs.declared.ending.Ending.{Ending}
 use Rattle.mpy_endings.specs.declared.ending.Ending.TheVariants.{Done, Unaccepted, Unread, Unverified, Unmerged, Unopened, Unfrozen, Unboarded, Different, Stopped, ReadFault, WriteFault, Unwritten, NoMemory, Absent}
 use Rattle.mpy_endings.specs.declared.ending.Stop.TheVariants.{Past, LibraryFault, LibraryUnaccepted, Raised, Memory, Steps, Unsaved, Unresumed}
 use Rattle.mpy_endings.specs.Ending.{IsSettled, IsRunStatus, status_of}
-use Rattle.run_commands.specs.declared.ready.Ready.{Ready}
-use Rattle.run_commands.specs.Run.{IsUnloaded, RanLibrary, Runs, Untouched, ending_of}
+use Rattle.meant_commands.specs.run_commands.declared.ready.Ready.{Ready}
+use Rattle.meant_commands.specs.run_commands.Run.{IsUnloaded, RanLibrary, Runs, Untouched, ending_of}
 use Rattle.meant_commands.specs.Alike.{AreAlike, IsWholeRun, Tells}
 use Rattle.tool_laws.specs.Once.{EndOnce}
 use Rattle.tool_laws.specs.Runs.{AnswersOnce, RunLaws}

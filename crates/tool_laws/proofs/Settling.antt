@@ -5,7 +5,7 @@ use Rattle.mpy_base.specs.declared.room.Room.{Room}
 use Rattle.mpy_base.specs.World.{PortState}
 use Rattle.mpy_io.specs.Files.{FileOf}
 use Rattle.mpy_io.specs.Ports.{PortView}
-use Rattle.run_commands.specs.library_runs.Runs.{Sight}
+use Rattle.meant_commands.specs.run_commands.library_runs.Runs.{Sight}
 use Rattle.manifest_files.specs.declared.frozen_fault.SourcesFault.TheVariants as sources
 use Rattle.manifest_files.specs.declared.frozen_fault.FrozenFault.TheVariants as frozen
 use Rattle.mpy_endings.specs.declared.ending.Ending.{Ending}
@@ -14,8 +14,8 @@ use Rattle.mpy_endings.specs.declared.ending.BoardFault.TheVariants as boards
 use Rattle.mpy_endings.specs.declared.ending.Stop.TheVariants.{Past, LibraryFault, LibraryUnaccepted, Raised, Memory, Steps, Unsaved, Unresumed}
 use Rattle.mpy_endings.specs.Ending.{IsSettled, IsRunStatus, status_of}
 use Rattle.command_files.specs.Outside.{Ends, EndsAt, Outside, Writes, WritesOf}
-use Rattle.run_commands.specs.declared.ready.Ready.{Ready}
-use Rattle.run_commands.specs.Run.{EndsRun, Runs, sight_in}
+use Rattle.meant_commands.specs.run_commands.declared.ready.Ready.{Ready}
+use Rattle.meant_commands.specs.run_commands.Run.{EndsRun, Runs, sight_in}
 use Rattle.meant_commands.specs.Alike.{Tells}
 use Rattle.tool_laws.specs.Once.{EndOnce, IsDone, IsSettledStatus, OneStatus, Settled, Succeeds}
 use Rattle.tool_laws.specs.Runs.{AnswersOnce, OnFiles, RunLaws, SettledRun}
