@@ -5,17 +5,25 @@ ghost use Rattle.mpy_io.specs.Count.{Counts};
 ghost use Rattle.port_set.specs.Counts.{CountsKeep};
 ghost use Rattle.bc_library.specs.Shelf.{Named};
 ghost use Rattle.vm_machine.specs.Machine.{IsVm};
+ghost use Rattle.vm_machine.specs.vm_starting.Programs.{IsRunnable};
 ghost use Rattle.library_runs.specs.declared.ending.RunEnd.{RunEnd as End};
 ghost use Rattle.library_runs.specs.Runs.{GoesOn, RunsAs, Says, StandsAt, StandsOn, IsOver, is_write_fault, sight, speaks};
 
 use crate::ending::RunEnd;
 use crate::reporting::say_end;
-use bc_library::Library;
+use bc_library::{Library, modules_law};
 use mpy_base::{NoMemory, Room};
 use mpy_io::{Failed, Port, Sink};
 use port_set::PortSet;
 use std::alloc::Global;
 use vm_machine::{Cache, Rows, Vm, open, program_law, run};
+
+/// Each library that there is can be run.
+fn runnable_law(library: &Library)
+    ensures { IsRunnable library.now }
+{
+    modules_law(library);
+}
 
 /// Lets a machine of the library go on for these steps at most. What is printed is handed on before anything is said. A run that took all
 /// its steps and didn't end leaves its machine.
@@ -102,6 +110,7 @@ pub fn run_for<S: Sink, P: Port, E: Sink>(
     ensures faults { CountsKeep (map P.seen ports.old) (map P.seen ports.new) }
 {
     program_law();
+    runnable_law(library);
     let rows = match Rows::new(alloc, library) {
         Ok(rows) => rows,
         Err(NoMemory) => return (RunEnd::NoMemory, None),
