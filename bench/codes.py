@@ -1,11 +1,12 @@
-"""Random codes for the verifier: about half are verified, the others have a fault at any place, some in a later round of a loop."""
+"""Random codes for the verifier: about half are verified, the others have a fault at any place, some in a later round of a loop. They are
+small, since a reference takes its time over large ones."""
 from hostile import CODES, Code, file_of
 
 CODES.update(LOAD_FAST_0=0xB0, LOAD_FAST_3=0xB3, STORE_FAST_0=0xC0, LOAD_NULL=0x53, LOAD_METHOD=0x14, CALL_METHOD=0x36, CALL_FUNCTION=0x34,
              STORE_SUBSCR=0x56, ROT_TWO=0x5A, ROT_THREE=0x5B, GET_ITER_STACK=0x5F, FOR_ITER=0x4B, UNWIND_JUMP=0x40, RAISE_OBJ=0x65,
              POP_JUMP_IF_FALSE=0x44, JUMP_IF_FALSE_OR_POP=0x46, BINARY_ADD=0xF2, BUILD_LIST=0x2B, LOAD_SUBSCR=0x55, STORE_MAP=0x62)
 NAME = 7  # of a static text: `print`
-MOST = 60  # slots that are open at once
+MOST = 12  # slots that are open at once
 EXCEPT, FINALLY = "SETUP_EXCEPT", "SETUP_FINALLY"
 
 # name: operand, slots that are taken, slots that are given, how often it is drawn
@@ -156,7 +157,7 @@ class RandomCode:
 def random_file(draw):
     """Returns the bytes of a file of one random code."""
     it = RandomCode(draw)
-    for _ in range(draw.choice([8, 15, 30, 60, 120, 300])):
+    for _ in range(draw.choice([8, 15, 30, 60, 90])):
         it.step()
     small = bytes([draw.choice([3, 7, 15]) << 3 | 4])
     return file_of(it.finish(), small if draw.random() < 0.2 else None)

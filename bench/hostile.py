@@ -159,6 +159,20 @@ def finallys(depth, returns, below):
     return c
 
 
+def returns(depth, count, below):
+    """As many as may be."""
+    c = Code().op('LOAD_CONST_TRUE').num('UNPACK_SEQUENCE', below)
+    for d in range(depth):
+        c.jump('SETUP_FINALLY', ('h', d))
+    c.op('LOAD_CONST_NONE')
+    for i in range(count):
+        c.op('LOAD_CONST_TRUE').jump('POP_JUMP_IF_TRUE', ('l', i), False).op('RETURN_VALUE').label(('l', i))
+    c.op('RETURN_VALUE')
+    for d in reversed(range(depth)):
+        c.label(('h', d)).op('END_FINALLY', 'LOAD_CONST_NONE', 'RETURN_VALUE')
+    return c
+
+
 def tries(depth, count, below):
     """Many short tries within many others."""
     c = Code().op('LOAD_CONST_TRUE').num('UNPACK_SEQUENCE', below)
@@ -241,6 +255,18 @@ def plain(count):
     return Code().op(*['LOAD_CONST_NONE', 'POP_TOP'] * (count // 2), 'LOAD_CONST_NONE', 'RETURN_VALUE')
 
 
+def late_end(code):
+    """The same code within an except handler, in front of an END_FINALLY that finds an open slot, and a value when all else was visited: which
+    of several such positions finds one first, only the rounds of the loops before tell."""
+    c = Code().jump('SETUP_EXCEPT', 'handler').op('LOAD_CONST_NONE', 'RETURN_VALUE').label('handler')
+    c.op('LOAD_CONST_TRUE').jump('JUMP_IF_TRUE_OR_POP', 'last').op('LOAD_CONST_TRUE').jump('JUMP_IF_TRUE_OR_POP', 'before')
+    if code.last is not None:
+        c.last = code.last + c.length
+    c.parts += code.parts
+    c.label('before').op('POP_TOP').label('end').op('END_FINALLY', 'LOAD_CONST_NONE', 'RETURN_VALUE')
+    return c.label('last').op('POP_TOP', 'POP_TOP', 'LOAD_CONST_TRUE').jump('JUMP', 'end', False)
+
+
 def refused(code):
     """The same code with a fault that is the last thing found: a value where a cause is asked, behind all."""
     c = Code().op('LOAD_CONST_TRUE').jump('JUMP_IF_TRUE_OR_POP', 'bad').op('LOAD_CONST_NONE', 'POP_TOP')
@@ -277,6 +303,15 @@ HOSTILE = {
     'refused-closing-3600': refused(closing(3600, 0, 2290)),
     'refused-branches-over-open': refused(looking(4000, 9500, True)),
     'refused-tries-in-250': refused(tries(250, 6000, 3500)),
+    'refused-finallys-200': refused(finallys(200, 4500, 3700)),
+    'refused-returns-in-250': refused(returns(250, 6200, 3700)),
+    'refused-dense-4085': refused(dense([4085], 32600)),
+    'refused-bottoms-4-in-200': refused(bottoms(1380, 4, 3990, 200)),
+    'refused-excepts-4000': refused(excepts(4000, 6400)),
+    'refused-late-end-1000': late_end(closing(1000, 0, 8180)),
+    'refused-late-end-2000': late_end(closing(2000, 0, 5980)),
+    'refused-late-end-3600': late_end(closing(3600, 0, 2280)),
+    'refused-late-end-tries-in-250': late_end(tries(250, 6000, 3500)),
 }
 
 if __name__ == '__main__':
