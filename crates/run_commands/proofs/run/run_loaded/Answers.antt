@@ -29,8 +29,8 @@ returns-in-Err-clause-went g c =
     let Comes = λ (r : Result Ready Ending). r ≡ c.args.loaded in
     ([], not_loaded Comes c.args.room c.args.steps here here [] c.in-Err.ending (subst (λ (r : Result Ready Ending). IfErr r IsUnloaded) c.in-Err.is c.requires.unloaded) (sym c.in-Err.is) refl refl, says_nothing (g.E.Sink.told c.args.say.now) (g.E.Sink.count c.args.say.now))
 
-pub run_library-end-requires-clause-there : goal.run_library-end-requires-clause-there
-run_library-end-requires-clause-there g c =
+pub run_library-end-requires : goal.run_library-end-requires
+run_library-end-requires g c =
     let first = subst (λ (r : Result Ready Ending). IfOk r (λ ready. (m : Module) × IsMainAt ready.main ready.place m ready.library)) c.in-Ok.is c.requires.there in
     slice_get_within c.in-Ok.ready.library.modules c.in-Ok.ready.place (record { name = c.in-Ok.ready.main; held = first.0 }) first.1
 
