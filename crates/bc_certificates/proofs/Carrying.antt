@@ -16,7 +16,7 @@ pub row_carried : (code : Code) (rows : Rows) (p : ℕ) (x : At) → row rows p 
 row_carried code rows zero x e = e
 row_carried code rows (suc p) x e = ap (λ o. or_else o (brought code p (carried code rows p))) e
 
-leads_carried : (code : Code) (rows : Rows) (e : Edge) → Leads (row rows) e → Leads (carried code rows) e
+pub leads_carried : (code : Code) (rows : Rows) (e : Edge) → Leads (row rows) e → Leads (carried code rows) e
 leads_carried code rows e l = record { at = l.at; is = row_carried code rows e.to l.at l.is; under = l.under }
 
 each_carried : (code : Code) (rows : Rows) (es : List Edge) → Each (row rows) es → Each (carried code rows) es

@@ -16,22 +16,13 @@ use Rattle.bc_flow.specs.Code.{Code}
 use Rattle.bc_flow.specs.Edges.{Edge, edge_of, mark, one_run, pushed, raise_ways, run_ways, slots_of, way_in}
 use Rattle.bc_flow.specs.Verified.{Assigned, Each, Leads, also}
 use Rattle.bc_certificates.specs.Rows.{Rows, carried, row}
-use Rattle.bc_certificates.specs.Checking.{Lead, last_handler, ordered, raise_edges, stands_on}
+use Rattle.bc_certificates.specs.Checking.{Lead, Lies, into, last_handler, ordered, raise_edges, stands_on}
 use Rattle.bc_certificates.proofs.Carrying.{row_carried}
 use Rattle.bc_certificates.proofs.Checks.{lead_append, lead_none}
-
--- the edge into an entry's handler, from these slots
-into : List Kind → Entry → List Entry → Edge
-into ks e es = record { to = e.handler; at = record { slots = pushed e.is_finally (drop (length ks - e.height) ks); entries = (way_in e es).entries } }
 
 into_is : (i : Action) (x : At) (e : Entry) (es : List Entry) → edge_of i x (way_in e es) ≡ into x.slots e es
 unfolding slots_of into
 into_is i x e es = refl
-
--- each entry that isn't active leads to a row
-Lies : Rows → List Kind → List Entry → Type 0
-Lies rows ks [] = Unit {0}
-Lies rows ks (e ∷ es) = (e.active ≡ false → Lead rows (into ks e es ∷ [])) × Lies rows ks es
 
 -- how many entries aren't active
 waiting : List Entry → ℕ
@@ -113,7 +104,6 @@ lead_lower rows ks ys e es h l = record { marked = l.marked; each = by l.each }
 
 -- so do all entries of a list that stands no higher
 lies_lower : (rows : Rows) (ks ys : List Kind) (k : Kind) (n m p : ℕ) (es : List Entry) → n ≤ length ks → m ≤ n → Belows (k ∷ drop (length ks - n) ks) ys → ordered m p es ≡ true → Lies rows ys es → Lies rows ks es
-unfolding Lies
 lies_lower rows ks ys k n m p [] a b h o l = tt
 lies_lower rows ks ys k n m p (e ∷ es) a b h o l =
     let parts = and_parts (stands_on m p e) (ordered e.height (last_handler p e) es) o in
@@ -155,7 +145,6 @@ pushed_first false ks = refl
 
 -- the entries of a list lead, by whether its topmost one is active
 by_active : (rows : Rows) (ks : List Kind) (e : Entry) (es : List Entry) (a : Bool) → e.active ≡ a → (e.active ≡ true → Lies rows ks es) → (e.active ≡ false → Lead rows (into ks e es ∷ []) × Lies rows ks es) → Lies rows ks (e ∷ es)
-unfolding Lies
 by_active rows ks e es true t f g = (λ q. absurd (false≢true (sym q ∙ t)), f t)
 by_active rows ks e es false t f g = (λ q. (g t).0, (g t).1)
 
@@ -163,27 +152,64 @@ by_active rows ks e es false t f g = (λ q. (g t).0, (g t).1)
 leads_one : (a : Assigned) (e : Edge) → Each a (e ∷ []) → Leads a e
 leads_one a e (also l rest) = l
 
+-- the entries below one that isn't active lead, where those of its handler's row do
+below_one : (rows : Rows) (ks : List Kind) (n p : ℕ) (e : Entry) (es : List Entry) → n ≤ length ks → ordered n p (e ∷ es) ≡ true → e.active ≡ false → Lead rows (into ks e es ∷ []) → ((y : At) → row rows e.handler ≡ Some y → y.entries ≡ mark e.handler (record e { active = true }) ∷ es → Lies rows y.slots y.entries) → Lies rows ks es
+unfolding into
+below_one rows ks n p e es le o t l f =
+    let parts = and_parts (stands_on n p e) (ordered e.height (last_handler p e) es) o in
+    let own = and_parts (nat_le e.height n) (e.active || nat_lt p e.handler) parts.0 in
+    let high : e.height ≤ n = grind (arith, nat_tests, own.0) in
+    let behind : ordered e.height e.handler es ≡ true = ap (λ a. ordered e.height (if a then p else e.handler) es) (sym t) ∙ parts.1 in
+    let m = leads_one (row rows) (into ks e es) l.each in
+    let y = m.at in
+    let top : Entry = mark e.handler (record e { active = true }) in
+    let entries : y.entries ≡ top ∷ es = sym m.under.entries ∙ ap (λ z. top ∷ z) (marks_none e.height e.handler es behind) in
+    let there : Lies rows y.slots (top ∷ es) = subst (Lies rows y.slots) entries (f y m.is entries) in
+    lies_lower rows ks y.slots (first_of e.is_finally) e.height e.height e.handler es (omega (arith, high, le)) (omega arith)
+    (subst (λ z. Belows z y.slots) (pushed_first e.is_finally (drop (length ks - e.height) ks)) m.under.slots) behind there.1
+
+-- all entries lead of the rows where these edges end
+abbrev pub LieBehind : Rows → List Edge → Type 0
+LieBehind rows [] = Unit {0}
+LieBehind rows (e ∷ es) = ((y : At) → row rows e.to ≡ Some y → Lies rows y.slots y.entries) × LieBehind rows es
+
+-- so all entries of a position lead, where a raise leads to a row of which all do
+pub lies_on : (rows : Rows) (i : Action) (x : At) (n p : ℕ) (es : List Entry) → n ≤ length x.slots → ordered n p es ≡ true → Lead rows (map (edge_of i x) (raise_ways es)) → LieBehind rows (map (edge_of i x) (raise_ways es)) → Lies rows x.slots es
+lies_on rows i x n p [] le o l b = tt
+lies_on rows i x n p (e ∷ es) le o l b =
+    let parts = and_parts (stands_on n p e) (ordered e.height (last_handler p e) es) o in
+    let own = and_parts (nat_le e.height n) (e.active || nat_lt p e.handler) parts.0 in
+    let high : e.height ≤ n = grind (arith, nat_tests, own.0) in
+    by_active rows x.slots e es e.active refl
+    (λ t. lies_on rows i x e.height (last_handler p e) es (omega (arith, high, le)) parts.1 (subst (λ ws. Lead rows (map (edge_of i x) ws)) (raises_lower e es t) l)
+    (subst (λ ws. LieBehind rows (map (edge_of i x) ws)) (raises_lower e es t) b))
+    (λ t. let here : Lead rows (into x.slots e es ∷ []) = subst (λ z. Lead rows (z ∷ [])) (into_is i x e es) (subst (λ ws. Lead rows (map (edge_of i x) ws)) (raises_here e es t) l) in
+    let next = subst (λ ws. LieBehind rows (map (edge_of i x) ws)) (raises_here e es t) b in
+    (here, below_one rows x.slots n p e es le o t here (λ y r q. next.0 y r)))
+
+module _ (rows : Rows) where
+  one_leads : (i : Action) (x : At) (e : Entry) (es : List Entry) (last active : Bool) → e.active ≡ active → (e.active ≡ false → Lead rows (into x.slots e es ∷ [])) → Lead rows (map (edge_of i x) (if last && not active then (way_in e es ∷ []) else []))
+  one_leads i x e es true true t f = lead_none rows
+  one_leads i x e es true false t f = subst (λ z. Lead rows (z ∷ [])) (sym (into_is i x e es)) (f t)
+  one_leads i x e es false active t f = lead_none rows
+
+  -- so do the finally handlers that run
+  pub runs : (i : Action) (x : At) (k : ℕ) (es : List Entry) → Lies rows x.slots es → Lead rows (map (edge_of i x) (run_ways k es))
+  runs i x zero es l = lead_none rows
+  runs i x (suc k) [] l = lead_none rows
+  runs i x (suc k) (e ∷ es) l =
+      subst (Lead rows) (sym (map-append (edge_of i x) (one_run e es) (run_ways k es)))
+      (lead_append rows (map (edge_of i x) (one_run e es)) (map (edge_of i x) (run_ways k es)) (one_leads i x e es e.is_finally e.active refl l.0) (runs i x k es l.1))
+
 module _ (code : Code) (rows : Rows) (each : (p : ℕ) (x : At) → carried code rows p ≡ Some x → Raises rows p x) where
   -- the entries below the topmost one that isn't active lead, since they do from its handler
   below_top : (b : ℕ) → ((q : ℕ) (y : At) → carried code rows q ≡ Some y → waiting y.entries < b → Lies rows y.slots y.entries) → (ks : List Kind) (n p : ℕ) (e : Entry) (es : List Entry) → waiting (e ∷ es) ≤ b → n ≤ length ks → ordered n p (e ∷ es) ≡ true → e.active ≡ false → Lead rows (into ks e es ∷ []) → Lies rows ks es
-  unfolding Lies into waiting
+  unfolding waiting
   below_top b ih ks n p e es few le o t l =
-      let parts = and_parts (stands_on n p e) (ordered e.height (last_handler p e) es) o in
-      let own = and_parts (nat_le e.height n) (e.active || nat_lt p e.handler) parts.0 in
-      let high : e.height ≤ n = grind (arith, nat_tests, own.0) in
-      let behind : ordered e.height e.handler es ≡ true = ap (λ a. ordered e.height (if a then p else e.handler) es) (sym t) ∙ parts.1 in
-      let m = leads_one (row rows) (into ks e es) l.each in
-      let y = m.at in
-      let top : Entry = mark e.handler (record e { active = true }) in
-      let entries : y.entries ≡ top ∷ es = sym m.under.entries ∙ ap (λ z. top ∷ z) (marks_none e.height e.handler es behind) in
-      let count : waiting y.entries ≡ waiting es = ap waiting entries in
       let more = waiting_more e es t in
-      let there : Lies rows y.slots (top ∷ es) = subst (Lies rows y.slots) entries (ih e.handler y (row_carried code rows e.handler y m.is) (omega (arith, count, more, few))) in
-      lies_lower rows ks y.slots (first_of e.is_finally) e.height e.height e.handler es (omega (arith, high, le)) (omega arith)
-      (subst (λ z. Belows z y.slots) (pushed_first e.is_finally (drop (length ks - e.height) ks)) m.under.slots) behind there.1
+      below_one rows ks n p e es le o t l (λ y r entries. let count : waiting y.entries ≡ waiting es = ap waiting entries in ih e.handler y (row_carried code rows e.handler y r) (omega (arith, count, more, few)))
 
   from_raise : (b : ℕ) → ((q : ℕ) (y : At) → carried code rows q ≡ Some y → waiting y.entries < b → Lies rows y.slots y.entries) → (i : Action) (x : At) (n p : ℕ) (es : List Entry) → waiting es ≤ b → n ≤ length x.slots → ordered n p es ≡ true → Lead rows (map (edge_of i x) (raise_ways es)) → Lies rows x.slots es
-  unfolding Lies
   from_raise b ih i x n p [] few le o l = tt
   from_raise b ih i x n p (e ∷ es) few le o l =
       let parts = and_parts (stands_on n p e) (ordered e.height (last_handler p e) es) o in
@@ -203,19 +229,6 @@ module _ (code : Code) (rows : Rows) (each : (p : ℕ) (x : At) → carried code
       let r = each p x is in
       from_raise (suc b) (λ q y e lt. chain b q y e (omega (arith, lt))) r.action x (length x.slots) p x.entries few (omega arith) r.order r.lead
 
-  one_leads : (i : Action) (x : At) (e : Entry) (es : List Entry) (last active : Bool) → e.active ≡ active → (e.active ≡ false → Lead rows (into x.slots e es ∷ [])) → Lead rows (map (edge_of i x) (if last && not active then (way_in e es ∷ []) else []))
-  one_leads i x e es true true t f = lead_none rows
-  one_leads i x e es true false t f = subst (λ z. Lead rows (z ∷ [])) (sym (into_is i x e es)) (f t)
-  one_leads i x e es false active t f = lead_none rows
-
-  runs : (i : Action) (x : At) (k : ℕ) (es : List Entry) → Lies rows x.slots es → Lead rows (map (edge_of i x) (run_ways k es))
-  unfolding Lies
-  runs i x zero es l = lead_none rows
-  runs i x (suc k) [] l = lead_none rows
-  runs i x (suc k) (e ∷ es) l =
-      subst (Lead rows) (sym (map-append (edge_of i x) (one_run e es) (run_ways k es)))
-      (lead_append rows (map (edge_of i x) (one_run e es)) (map (edge_of i x) (run_ways k es)) (one_leads i x e es e.is_finally e.active refl l.0) (runs i x k es l.1))
-
   -- the finally handlers that run at a position lead to rows
   pub runs_lead : (i : Action) (p : ℕ) (x : At) (k : ℕ) → carried code rows p ≡ Some x → Lead rows (map (edge_of i x) (run_ways k x.entries))
-  runs_lead i p x k is = runs i x k x.entries (chain (waiting x.entries) p x is (omega arith))
+  runs_lead i p x k is = runs rows i x k x.entries (chain (waiting x.entries) p x is (omega arith))

@@ -28,7 +28,7 @@ next_marked true p es h = and_from (is_marked (suc p) (arrive (suc p) es Next).e
 next_marked false p es h = refl
 
 module _ (code : Code) (rows : Rows) (p : ℕ) (x : At) (k : Kept code rows p x) (others : Lead rows (other_edges k.action x)) where
-  held : holds code k.action p (length x.slots) x.entries ≡ true
+  pub held : holds code k.action p (length x.slots) x.entries ≡ true
   unfolding holds
   held =
       let n = length x.slots in

@@ -1,6 +1,8 @@
 -- What a check of rows finds out of one position.
-use Rattle.std.specs.Prelude.{◌≡◌, ℕ, zero, suc, true, false, ◌&&◌, ◌||◌, List, [], ◌∷◌, ◌++◌, ◌-◌, drop, length, map, Option, None, IfSome, nat_le, nat_lt, option_map, slice_get, Some, Bool, if◌then◌else◌}
+use Rattle.std.specs.Prelude.{◌≡◌, ℕ, zero, suc, true, false, ◌&&◌, ◌||◌, List, [], ◌∷◌, ◌++◌, ◌-◌, drop, length, map, Option}
+use Rattle.std.specs.Prelude.{None, IfSome, nat_le, nat_lt, option_map, slice_get, Some, Bool, if◌then◌else◌}
 use Rattle.bc_flow.specs.bc_shapes.declared.shape.Shape.{Shape}
+use Rattle.bc_flow.specs.bc_shapes.declared.kinds.Kind.{Kind}
 use Rattle.bc_flow.specs.bc_shapes.declared.shape.Entry.{Entry}
 use Rattle.bc_flow.specs.bc_shapes.Shape.{At, Under}
 use Rattle.bc_certificates.specs.declared.certificate.Row.{Row}
@@ -8,7 +10,7 @@ use Rattle.bc_certificates.specs.declared.certificate.Table.{Table}
 use Rattle.bc_flow.specs.bc_shapes.Views.{at_of}
 use Rattle.bc_flow.specs.Action.{Action, Straight}
 use Rattle.bc_flow.specs.Code.{Code}
-use Rattle.bc_flow.specs.Edges.{Edge, asks, behind, change, edge_of, edges_marked, is_marked, finds, jump_way, raise_ways, room, stays, target}
+use Rattle.bc_flow.specs.Edges.{Edge, asks, behind, change, edge_of, edges_marked, is_marked, finds, jump_way, pushed, raise_ways, room, stays, target, way_in}
 use Rattle.bc_flow.specs.Verified.{Each, Leads, begin}
 use Rattle.bc_certificates.specs.Rows.{Rows, row, carried, brought, fall, goes_on}
 
@@ -36,6 +38,15 @@ pub record Lead (rows : Rows) (es : List Edge) : Type 0 where
 -- the entries are there that it asks, and there is room for those behind it
 abbrev pub fits_entries : Code → Action → ℕ → List Entry → Bool
 fits_entries code i n es = asks (change i) es && nat_le (length (behind (change i) n es)) code.n_exc
+
+-- the edge into an entry's handler, from these slots
+unfoldable pub into : List Kind → Entry → List Entry → Edge
+into ks e es = record { to = e.handler; at = record { slots = pushed e.is_finally (drop (length ks - e.height) ks); entries = (way_in e es).entries } }
+
+-- the handler of each entry that isn't active has a row, above what the way into it brings from these slots
+abbrev pub Lies : Rows → List Kind → List Entry → Type 0
+Lies rows ks [] = Unit {0}
+Lies rows ks (e ∷ es) = (e.active ≡ false → Lead rows (into ks e es ∷ [])) × Lies rows ks es
 
 -- the entry stands no higher than that many slots, and its handler lies behind the position, if it isn't active
 abbrev pub stands_on : ℕ → ℕ → Entry → Bool

@@ -4,7 +4,8 @@ use Rattle.bc_flow.specs.bc_shapes.declared.shape.Entry.{Entry}
 use Rattle.bc_flow.specs.bc_shapes.Shape.{At, Under}
 use Rattle.bc_flow.specs.Action.{Action}
 use Rattle.bc_flow.specs.Code.{Code}
-use Rattle.bc_flow.specs.Edges.{Way, Next, Edge, edge_of, arrive, behind, change, falls, target, runs, jump_way, raise_ways, run_ways, holds, finds, room, stays}
+use Rattle.bc_flow.specs.Edges.{Way, Next, Edge, edge_of, arrive, behind, change, falls, target, runs, jump_way, raise_ways}
+use Rattle.bc_flow.specs.Edges.{run_ways, holds, finds, room, stays}
 use Rattle.bc_flow.specs.Verified.{Assigned, Each, Leads, begin}
 
 -- what holds of positions, by their numbers

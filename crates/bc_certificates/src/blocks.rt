@@ -3,7 +3,7 @@
 ghost use Rattle.std.specs.Prelude.{◌<◌, length};
 
 use crate::groups::{Firm, Group, MOST, Open, SIZE, all_open};
-use bc_flow::Code;
+use bc_flow::{Code, locals};
 use bc_ops::{Instr, Item, Op, Target};
 use bc_shapes::Span;
 use mpy_base::NoMemory;
@@ -11,6 +11,9 @@ use std::alloc::Global;
 
 /// The number of no block and of no entry.
 pub(crate) const NONE: usize = usize::MAX;
+
+/// How many slots more than it may have a row may have behind one instruction: there is no row behind that.
+pub(crate) const MORE: usize = 256;
 
 /// A handler entry on others. Lists of entries share their lower parts, and an entry is active from its handler's position on.
 #[derive(Clone, Copy)]
@@ -89,6 +92,12 @@ pub(crate) struct Walk {
     pub changed: Vec<u64>,
     /// A bit for each block, which is set where it waits for a visit.
     pub pending: Vec<u64>,
+    /// A bit for each block, which is set where it waits for its first visit, and a number below which none does.
+    pub fresh: Vec<u64>,
+    pub least: usize,
+    /// Are all rules asked, as at first visits, and how many locals are there?
+    pub strict: bool,
+    pub locals: usize,
     /// The block that is walked, its slots, and where each came from.
     pub walked: usize,
     pub slots: Vec<Group>,
@@ -391,6 +400,10 @@ fn empty_walk(alloc: Global) -> Walk {
         firms: Vec::new(alloc),
         changed: Vec::new(alloc),
         pending: Vec::new(alloc),
+        fresh: Vec::new(alloc),
+        least: 0,
+        strict: false,
+        locals: 0,
         walked: NONE,
         slots: Vec::new(alloc),
         origins: Vec::new(alloc),
@@ -418,10 +431,12 @@ pub(crate) fn start(alloc: Global, code: &Code) -> Result<Walk, NoMemory> {
     let mut walk = empty_walk(alloc);
     push_blocks(alloc, code, &mut walk)?;
     let blocks = walk.blocks.len();
-    let groups = groups_of(code.n_state).min(MOST);
+    let groups = groups_of(code.n_state.saturating_add(MORE)).min(MOST);
     walk.firms.push(all_open().firm)?;
     push_clear(&mut walk.changed, blocks)?;
     push_clear(&mut walk.pending, blocks / SIZE + 1)?;
+    push_clear(&mut walk.fresh, blocks / SIZE + 1)?;
+    walk.locals = locals(code);
     for _g in 0..groups {
         walk.slots.push(all_open())?;
     }

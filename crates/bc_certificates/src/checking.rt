@@ -1,6 +1,7 @@
 //! Whether rows certify a code: each position is looked at once, from the first one on.
 
-ghost use Rattle.std.specs.Prelude.{◌≡◌, ◌+◌, ◌<◌, ◌≤◌, ◌^◌, ◌∷◌, [], ℕ, suc, List, Some, None, IfOk, OnOk, IfSome, length, map, option_map, slice_get, ◌&&◌, true};
+ghost use Rattle.std.specs.Prelude.{◌≡◌, ◌+◌, ◌<◌, ◌≤◌, ◌^◌, ◌∷◌, [], ℕ, suc, List, Some, None, IfOk, OnOk, IfSome, length, map};
+ghost use Rattle.std.specs.Prelude.{option_map, slice_get, ◌&&◌, true};
 ghost use Rattle.std.specs.Bool.{OnFalse, OnTrue};
 ghost use Rattle.bc_flow.specs.bc_shapes.Shape.{At, Under};
 ghost use Rattle.bc_flow.specs.bc_shapes.declared.shape.Shape.{Shape as SpecShape};
@@ -33,7 +34,7 @@ pub(crate) struct Held {
 
 /// What arrives along an edge, and the row that it is compared with.
 #[derive(Drop)]
-pub(crate) struct Seen {
+pub struct Seen {
     pub came: Shape,
     pub there: Shape,
 }
@@ -53,7 +54,7 @@ fn row_in(rows: &[Option<Row>], p: usize) -> Option<&Row>
 }
 
 /// The row of a position, if it has one.
-fn row_at(table: &Table, p: usize) -> Option<&Row>
+pub fn row_at(table: &Table, p: usize) -> Option<&Row>
     ensures { row (rows_of table.now) p ≡ option_map (λ r. at_row table.now.bases.items r.now) result }
 {
     row_in(&table.rows, p)
@@ -83,7 +84,7 @@ fn put_on(x: &mut Shape, base: &Shape, slots: usize, entries: usize) -> Result<(
 }
 
 /// Makes the shape what the row says.
-fn copy_row(table: &Table, row: &Row, x: &mut Shape) -> Result<(), NoMemory>
+pub fn copy_row(table: &Table, row: &Row, x: &mut Shape) -> Result<(), NoMemory>
     ensures { OnOk result (at_of x.new ≡ at_row table.now.bases.items row.now) }
 {
     copy(x, &row.top)?;
@@ -136,7 +137,7 @@ fn leads(table: &Table, edge: Edge, seen: &mut Seen) -> Result<bool, NoMemory>
 }
 
 /// Does the edge lead to such a row, if there is one?
-fn leads_if(table: &Table, edge: Option<Edge>, seen: &mut Seen) -> Result<bool, NoMemory>
+pub fn leads_if(table: &Table, edge: Option<Edge>, seen: &mut Seen) -> Result<bool, NoMemory>
     ensures { IfOk result (λ yes. OnTrue yes (Lead (rows_of table.now) (map edge_of_rust (option_list edge.entry)))) }
 {
     match edge {
@@ -175,7 +176,7 @@ fn last_handler(p: usize, entry: Entry) -> usize
 }
 
 /// Does each entry stand no higher than the one above it, and have those that aren't active their handlers one behind another?
-fn are_ordered(slots: usize, p: usize, entries: &[Entry]) -> bool
+pub fn are_ordered(slots: usize, p: usize, entries: &[Entry]) -> bool
     ensures { result ≡ checking_specs.ordered slots p entries.now }
 {
     let mut height = slots;
@@ -191,7 +192,7 @@ fn are_ordered(slots: usize, p: usize, entries: &[Entry]) -> bool
 }
 
 /// Are the rules kept but for the edges to the next position and to the finally handlers that run?
-fn stands(
+pub fn stands(
     code: &Code,
     locals: usize,
     table: &Table,
@@ -246,7 +247,7 @@ fn falls_to(table: &Table, edge: Edge, seen: &mut Seen) -> Result<bool, NoMemory
 }
 
 /// What the instruction at a position does.
-fn action_in(code: &Code, p: usize) -> Action
+pub fn action_in(code: &Code, p: usize) -> Action
     requires { p < length code.now.items.items }
     ensures { slice_get (code_of code.now).actions p ≡ Some (action_of result) }
 {

@@ -9,13 +9,14 @@ mod blocks;
 mod certificate;
 mod checking;
 mod groups;
+mod obeying;
 mod passing;
 mod searching;
 mod sharing;
 mod walking;
 
 pub use certificate::{Row, Table};
-pub use checking::check;
+pub use checking::{Seen, action_in, are_ordered, check, copy_row, leads_if, row_at, stands};
 pub use searching::{certified, search};
 
 /// Code with a certificate is verified: what its rows carry meets the rules along every edge.

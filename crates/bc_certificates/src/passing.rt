@@ -17,6 +17,16 @@ pub(crate) fn wait(walk: &mut Walk, b: usize) {
     }
 }
 
+/// Puts a block among those that wait for their first visit.
+fn wait_first(walk: &mut Walk, b: usize) {
+    let at = b / SIZE;
+    if at < walk.fresh.len() {
+        walk.fresh[at] = walk.fresh[at] | bit(b);
+    }
+    walk.least = walk.least.min(b);
+    wait(walk, b);
+}
+
 /// Notes that a group of a block's row changed.
 fn note_change(walk: &mut Walk, b: usize, g: usize) {
     if b < walk.changed.len() {
@@ -145,7 +155,7 @@ fn put_row(
     first.source = walk.walked;
     put_block(walk, b, first);
     walk.order.push(b)?;
-    wait(walk, b);
+    wait_first(walk, b);
     put_groups(walk, b, height)
 }
 

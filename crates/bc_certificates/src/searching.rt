@@ -6,7 +6,7 @@ ghost use Rattle.std.specs.Bool.{OnTrue};
 ghost use Rattle.bc_flow.specs.Code.{code_of};
 ghost use Rattle.bc_flow.specs.Verified.{Verified};
 
-use crate::blocks::{Exits, NONE, Walk, exits_at, row_group, start};
+use crate::blocks::{Exits, MORE, NONE, Walk, block_at, exits_at, put_block, row_group, start};
 use crate::certificate::{Row, Table};
 use crate::checking::check;
 use crate::groups::{SIZE, bit};
@@ -47,11 +47,28 @@ fn any_moved(walk: &mut Walk, b: usize, exits: Exits) -> bool {
     any
 }
 
-/// Visits a block: the first time, and where a slot that it moves changed, it is walked; else what changed passes along its edges.
-fn visit(code: &Code, walk: &mut Walk, lists: &mut Lists, b: usize) -> Result<bool, NoMemory> {
+/// Visits a block the first time: it is walked by all rules.
+fn visit_first(
+    code: &Code,
+    walk: &mut Walk,
+    lists: &mut Lists,
+    b: usize,
+) -> Result<bool, NoMemory> {
+    let _changed = take_changes(walk, b);
+    walk_block(code, walk, lists, b)
+}
+
+/// Visits a block again: where a slot that it moves changed, it is walked; else what changed passes along its edges. One that was refused, or
+/// wasn't visited, is left where it was seen to be.
+fn visit_again(
+    code: &Code,
+    walk: &mut Walk,
+    lists: &mut Lists,
+    b: usize,
+) -> Result<bool, NoMemory> {
     let exits = exits_at(walk, b);
     let changed = take_changes(walk, b);
-    if !exits.visited || any_moved(walk, b, exits) {
+    if any_moved(walk, b, exits) {
         return walk_block(code, walk, lists, b);
     }
     Ok(
@@ -92,22 +109,67 @@ fn take_waiting(walk: &mut Walk, from: usize) -> Option<usize> {
     Some(b)
 }
 
-/// Visits blocks until none waits, and tells whether nothing was refused. Behind its first visit a block waits only where a slot of its
+/// Takes the first block that waits for its first visit.
+fn take_fresh(walk: &mut Walk) -> Option<usize> {
+    let b = waiting_from(&walk.fresh, walk.least)?;
+    let at = b / SIZE;
+    if at < walk.fresh.len() {
+        walk.fresh[at] = walk.fresh[at] & (bit(b) ^ u64::MAX);
+    }
+    walk.least = b;
+    Some(b)
+}
+
+/// Visits each block once, the first one that waits each time, and tells the one that was refused, if one was. Those are noted in `apart`
+/// that aren't visited right behind the block from which the flow goes on to them.
+fn visit_once(
+    code: &Code,
+    walk: &mut Walk,
+    lists: &mut Lists,
+    apart: &mut Vec<usize>,
+) -> Result<usize, NoMemory> {
+    let mut next = NONE;
+    walk.strict = true;
+    for _turn in 0..walk.blocks.len() {
+        let Some(b) = take_fresh(walk) else {
+            return Ok(NONE);
+        };
+        if next != b {
+            apart.push(next)?;
+        }
+        if !visit_first(code, walk, lists, b)? {
+            return Ok(b);
+        }
+        next = exits_at(walk, b).next.to;
+    }
+    Ok(NONE)
+}
+
+/// Lets changes pass on until none waits, and tells whether they all may. Behind its first visit a block waits only where a slot of its
 /// row changed, and each slot changes once; so that is also how many visits there may be.
-fn visit_all(alloc: Global, code: &Code, walk: &mut Walk) -> Result<bool, NoMemory> {
-    let mut lists = no_lists(alloc);
-    let slots = code.n_state.saturating_add(2);
+fn pass_all(code: &Code, walk: &mut Walk, lists: &mut Lists) -> Result<bool, NoMemory> {
+    let slots = code.n_state.saturating_add(2).saturating_add(MORE);
     let mut from = 0;
+    walk.strict = false;
     for _turn in 0..walk.blocks.len().saturating_mul(slots) {
         let Some(b) = take_waiting(walk, from) else {
             return Ok(true);
         };
-        if !visit(code, walk, &mut lists, b)? {
+        if !visit_again(code, walk, lists, b)? {
             return Ok(false);
         }
         from = b.saturating_add(1);
     }
     Ok(true)
+}
+
+/// Notes that these blocks have rows of their own.
+fn set_apart(walk: &mut Walk, apart: &[usize]) {
+    for b in apart {
+        let mut block = block_at(walk, *b);
+        block.meets = true;
+        put_block(walk, *b, block);
+    }
 }
 
 /// Does any instruction jump, or have a handler? Else edges meet nowhere, and the row of the first position is all that is needed.
@@ -136,7 +198,28 @@ fn first_row(alloc: Global) -> Result<Table, NoMemory> {
     })
 }
 
-/// Rows for the positions where edges meet, if some were found.
+/// Rows for the positions where edges meet, of a code that jumps.
+fn rows_by_blocks(alloc: Global, code: &Code) -> Result<Option<Table>, NoMemory> {
+    let mut walk = start(alloc, code)?;
+    if !arrive(&mut walk, 0, 0, NONE)? {
+        return Ok(None);
+    }
+    let mut lists = no_lists(alloc);
+    let mut apart = Vec::new(alloc);
+    let refused = visit_once(code, &mut walk, &mut lists, &mut apart)?;
+    if !pass_all(code, &mut walk, &mut lists)? {
+        return Ok(None);
+    }
+    if refused != NONE {
+        set_apart(&mut walk, &apart);
+    }
+    walk.exits = Vec::new(alloc);
+    walk.watched = Vec::new(alloc);
+    Ok(Some(share(alloc, &walk)?))
+}
+
+/// Rows for the positions where edges meet, if some were found. They lie above what the flow has at the positions that it visits before it
+/// meets a fault, if it does, where each was visited once.
 pub fn search(alloc: Global, code: &Code) -> Result<Option<Table>, NoMemory> {
     if code.items.is_empty() {
         return Ok(None);
@@ -144,16 +227,7 @@ pub fn search(alloc: Global, code: &Code) -> Result<Option<Table>, NoMemory> {
     if !any_jumps(code) {
         return Ok(Some(first_row(alloc)?));
     }
-    let mut walk = start(alloc, code)?;
-    if !arrive(&mut walk, 0, 0, NONE)? {
-        return Ok(None);
-    }
-    if !visit_all(alloc, code, &mut walk)? {
-        return Ok(None);
-    }
-    walk.exits = Vec::new(alloc);
-    walk.watched = Vec::new(alloc);
-    Ok(Some(share(alloc, &walk)?))
+    rows_by_blocks(alloc, code)
 }
 
 /// Was a certificate found? Codes that have none are told `false`.

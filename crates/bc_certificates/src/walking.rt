@@ -3,10 +3,11 @@
 ghost use Rattle.std.specs.Prelude.{◌<◌, length};
 
 use crate::blocks::{
-    Exit, NONE, Node, Walk, Watched, block_at, exits_at, groups_of, number_at, put_block,
+    Exit, MORE, NONE, Node, Walk, Watched, block_at, exits_at, groups_of, number_at, put_block,
     put_exits, row_group,
 };
 use crate::groups::{MOST, SIZE, bit, group_at, kind_at, put_group, put_kind, put_values};
+use crate::obeying::{has_room, may_act, may_go};
 use crate::passing::arrive;
 use bc_flow::{
     Action, Change, Code, action_at, change_of, falls, gives, gives_there, takes, target,
@@ -25,13 +26,13 @@ enum Turn {
 
 /// What the walk of a block knows of a position.
 #[derive(Clone, Copy)]
-struct Point {
-    position: usize,
-    height: usize,
+pub(crate) struct Point {
+    pub position: usize,
+    pub height: usize,
     /// The topmost entry.
-    entry: usize,
+    pub entry: usize,
     /// How many slots, from the lowest one, the block left alone so far.
-    low: usize,
+    pub low: usize,
 }
 
 /// A slot that an instruction gives: its kind, and the slot of the block's beginning that it is.
@@ -148,9 +149,9 @@ fn load(walk: &mut Walk, b: usize, height: usize) {
     }
 }
 
-/// May a block begin with that many slots?
+/// May a block begin with that many slots, or is it behind an instruction that has no room for them?
 fn fits(code: &Code, height: usize) -> bool {
-    height <= code.n_state && height <= MOST * SIZE
+    height <= code.n_state.saturating_add(MORE) && height <= MOST * SIZE
 }
 
 /// Goes along an edge of the block, and tells it, if the slots may arrive there.
@@ -186,13 +187,18 @@ fn raised(walk: &Walk, position: usize, entry: usize) -> usize {
 }
 
 /// Goes along the edge from a block's first position to the handler of an entry.
-fn leave_raised(code: &Code, walk: &mut Walk, entry: usize) -> Result<Option<Exit>, NoMemory> {
+fn leave_raised(
+    code: &Code,
+    walk: &mut Walk,
+    position: usize,
+    entry: usize,
+) -> Result<Option<Exit>, NoMemory> {
     if entry >= walk.nodes.len() {
         return Ok(None);
     }
     let node = walk.nodes[entry];
     let height = node.height.saturating_add(1);
-    if !fits(code, height) {
+    if !fits(code, height) || !may_go(walk, node.below, position, node.handler) {
         return Ok(None);
     }
     let kept = group_at(&walk.slots, node.height / SIZE);
@@ -224,7 +230,7 @@ fn walk_raise(code: &Code, walk: &mut Walk, b: usize) -> Result<bool, NoMemory> 
     if entry == NONE {
         return Ok(true);
     }
-    match leave_raised(code, walk, entry)? {
+    match leave_raised(code, walk, block.position, entry)? {
         None => Ok(false),
         Some(exit) => {
             let mut exits = exits_at(walk, b);
@@ -343,6 +349,9 @@ fn walk_jump(
     if !exits.visited {
         watch_moved(walk, b, exits.watched.from, point.low, height)?;
     }
+    if !may_go(walk, point.entry, point.position, position) {
+        return Ok(false);
+    }
     let to = number_at(&walk.numbers, position);
     match leave(code, walk, to, height, point)? {
         None => Ok(false),
@@ -396,11 +405,12 @@ fn step(
     point: &mut Point,
     action: &Action,
 ) -> Result<Turn, NoMemory> {
+    let before = *point;
     if !change_entries(code, walk, b, point, action)? {
         return Ok(Turn::Refused);
     }
     let taken = takes(action).len();
-    if taken > point.height {
+    if taken > point.height || !may_act(walk, before, *point, action) {
         return Ok(Turn::Refused);
     }
     list_given(walk, *point, gives(action), &mut lists.next)?;
@@ -414,6 +424,9 @@ fn step(
         Turn::Ends
     };
     if !walk_jump(code, walk, b, here, action, &lists.there)? {
+        return Ok(Turn::Refused);
+    }
+    if !has_room(code, walk, before.height, here.height, action) {
         return Ok(Turn::Refused);
     }
     Ok(turn)

@@ -1,6 +1,7 @@
 -- Verified code: an assignment exists that meets the rules. And the first fault, by the walk that works through the pending
 -- positions.
-use Rattle.std.specs.Prelude.{◌≡◌, ℕ, zero, suc, ◌≤◌, Bool, true, false, not, ◌&&◌, ◌||◌, List, [], ◌∷◌, length, replicate, Option, Some, None, nat_eq, slice_get, option_map, if◌then◌else◌}
+use Rattle.std.specs.Prelude.{◌≡◌, ℕ, zero, suc, ◌≤◌, Bool, true, false, not, ◌&&◌, ◌||◌, List, [], ◌∷◌, length, replicate}
+use Rattle.std.specs.Prelude.{Option, Some, None, nat_eq, slice_get, option_map, if◌then◌else◌}
 use Rattle.bc_shapes.specs.declared.shape.Entry.{Entry}
 use Rattle.bc_shapes.specs.Shape.{At, Under, join, opens, same_entries}
 use Rattle.bc_flow.specs.Action.{Action}
@@ -73,7 +74,8 @@ at (c ∷ t) (suc p) = at t p
 
 -- what holds where two arrive at one position: their entries are equal, and their slots meet
 abbrev pub meet_at : At → At → Option At
-meet_at y x = if same_entries y.entries x.entries then option_map (λ s. let z : At = record { slots = s; entries = y.entries } in z) (join y.slots x.slots) else None
+meet_at y x = if same_entries y.entries x.entries
+    then option_map (λ s. let z : At = record { slots = s; entries = y.entries } in z) (join y.slots x.slots) else None
 
 -- a position is pending again only where its slots changed: then fewer of them are b
 abbrev pub settle : At → At → Cell

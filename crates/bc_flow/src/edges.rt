@@ -431,9 +431,9 @@ pub fn jump_edge<'a>(action: &Action, behind: Behind<'a>, base: &'a [Kind]) -> O
     }
 }
 
-/// All edges that leave a position, with what arrives.
+/// All edges that leave a position, with what arrives: to the next position, of a jump, of a raise, and to the finally handlers that run.
 #[tactic(auto, unfolding(crate::specs::Edges::ways))]
-pub(crate) fn edges<'a>(
+pub fn all_edges<'a>(
     alloc: Global,
     code: &Code,
     action: &Action,

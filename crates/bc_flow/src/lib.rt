@@ -12,8 +12,8 @@ pub use action::{Action, action_at};
 pub use bc_ops::{Instr, Item, Op, items_of};
 pub use code::{Code, Fault, Rule, fault_of, locals};
 pub use edges::{
-    Behind, Change, Edge, change_of, entries_behind, falls, gives, gives_there, jump_edge,
-    next_edge, raise_edge, run_count, run_edge, takes, target,
+    Behind, Change, Edge, all_edges, change_of, entries_behind, falls, gives, gives_there,
+    jump_edge, next_edge, raise_edge, run_count, run_edge, takes, target,
 };
-pub use rules::{are_marked, base, finds, fits_entries, left, room, stays};
-pub use walk::{State, copy, flow, nothing, one_fault, order, progress, same_entries};
+pub use rules::{are_marked, base, finds, fits_entries, holds, left, room, stays};
+pub use walk::{State, copy, flow, nothing, one_fault, order, others, progress, same_entries};

@@ -76,7 +76,7 @@ pub fn fits_entries(code: &Code, action: &Action, slots: usize, entries: &[Entry
 }
 
 /// The rule Handlers, but for the entries that meet.
-pub(crate) fn holds(code: &Code, action: &Action, x: &Shape, edges: &[Edge]) -> bool
+pub fn holds(code: &Code, action: &Action, x: &Shape, edges: &[Edge]) -> bool
     ensures { result ≡ specs.holds_over (code_of code.now) (action_of action.now) (at_of x.now)
         (map edge_of_rust edges.now) }
 {

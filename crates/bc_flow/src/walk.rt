@@ -1,6 +1,7 @@
 //! The table of the positions, and the walk that works through the pending ones, the least first.
 
-ghost use Rattle.std.specs.Prelude.{◌≡◌, ◌+◌, ◌<◌, ◌≤◌, ◌↔◌, ◌&&◌, not, Bool, List, is_some, IfOk, OnOk, IfErr, IfSome, IfNone, ℕ, drop, length, map, option_map, slice_get, Some, None, [], true, MatchOption};
+ghost use Rattle.std.specs.Prelude.{◌≡◌, ◌+◌, ◌<◌, ◌≤◌, ◌↔◌, ◌&&◌, not, Bool, List, is_some, IfOk, OnOk, IfErr, IfSome, IfNone};
+ghost use Rattle.std.specs.Prelude.{ℕ, drop, length, map, option_map, slice_get, Some, None, [], true, MatchOption};
 ghost use Rattle.std.specs.BinaryHeap.{heap_items};
 ghost use Rattle.std.specs.Bool.{OnTrue, OnFalse};
 ghost use Rattle.bc_shapes.specs.Shape.{At, same_entries};
@@ -20,7 +21,7 @@ ghost use Rattle.bc_flow.specs.Views.{action_of, edge_of_rust, cell_of, cell_if,
 
 use crate::action::{Action, action_at};
 use crate::code::{Code, Fault, Rule, locals};
-use crate::edges::{Edge, edges, gives, gives_there};
+use crate::edges::{Edge, all_edges, gives, gives_there};
 use crate::passing::{pass, slots_to_pass};
 use crate::rules::{base, finds, finds_again, holds, room, stays};
 use bc_shapes::{Entry, Kind, NoMemory, Shape, Span, join, keeps_all, same_entry, union};
@@ -98,7 +99,7 @@ fn agrees(states: &[State], edge: Edge) -> bool
 
 /// Does none of the edges bring other entries to the same position?
 #[tactic(auto, using(crate::proofs::Tables::others_step, bc_shapes::proofs::Loops::and_first))]
-fn others(edge: Edge, edges: &[Edge]) -> bool
+pub fn others(edge: Edge, edges: &[Edge]) -> bool
     ensures { result ≡ specs.others (edge_of_rust edge.entry) (map edge_of_rust edges.now) }
 {
     for other in edges {
@@ -401,7 +402,7 @@ fn judge<'a>(
 {
     let action = action_at(code.items.len(), code.items[p]);
     let base = base(&action, x);
-    let edges = edges(alloc, code, &action, p, x, base)?;
+    let edges = all_edges(alloc, code, &action, p, x, base)?;
     if let Some(span) = clear_at(changes, p, &action, base) {
         return Ok(judge_again(&action, x, base, edges, span));
     }

@@ -1,4 +1,5 @@
 pub use Rattle.bc_verify.proofs as bc_verify_lemmas
+pub mod Counts
 mod Examples
 pub mod Files
 pub mod Objectless

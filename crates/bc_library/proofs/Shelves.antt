@@ -258,6 +258,32 @@ seen_files modules refused pool shelf is lib = seen_each IsModule modules refuse
 pub seen_verified : (modules : List Loaded) (refused : List (List ℕ)) (pool : Texts) (shelf : Shelf) → shelf_of modules refused pool ≡ shelf → IsLibrary modules refused pool → (i : ℕ) (m : Module) → module_at shelf i ≡ Some m → IsVerified m
 seen_verified modules refused pool shelf is lib = seen_each IsVerified modules refused pool shelf is (λ i l e. (lib.loaded i l e).verified)
 
+-- the texts of a module have numbers
+abbrev HasTexts : Texts → Module → Type 0
+HasTexts pool m = (q : ℕ) (text : List ℕ) → option_and_then raw.text_of (slice_get m.qstrs q) ≡ Some text → (n : ℕ) × (text_numbered pool n ≡ Some text)
+
+numbered_by : (pool : Texts) (r : Option ℕ) (s : Option Qstr) (text : List ℕ) → option_map (text_numbered pool) r ≡ option_map raw.text_of s → option_and_then raw.text_of s ≡ Some text
+    → (n : ℕ) × (text_numbered pool n ≡ Some text)
+numbered_by pool r None text e f = absurd cc
+numbered_by pool None (Some q) text e f = absurd cc
+numbered_by pool (Some n) (Some q) text e f = (n, cc)
+
+pub seen_texts : (modules : List Loaded) (refused : List (List ℕ)) (pool : Texts) (shelf : Shelf) → shelf_of modules refused pool ≡ shelf → IsLibrary modules refused pool
+    → (i q : ℕ) (text : List ℕ) → table_text shelf i q ≡ Some text → (n : ℕ) × (text_numbered shelf.pool n ≡ Some text)
+seen_texts modules refused pool shelf is lib i q text e = by (module_at shelf i) refl e
+  where
+    has : (m : Module) → module_at shelf i ≡ Some m → HasTexts pool m
+    has m f =
+        seen_each (HasTexts pool) modules refused pool shelf is
+        (λ j l g k t h. numbered_by pool (slice_get l.numbers.items k) (slice_get l.«module».qstrs k) t (same_there pool l.numbers.items l.«module».qstrs k (lib.loaded j l g).numbers) h)
+        i m f
+
+    by : (o : Option Module) → module_at shelf i ≡ o → option_and_then raw.text_of (option_and_then (λ (m : Module). slice_get m.qstrs q) o) ≡ Some text
+        → (n : ℕ) × (text_numbered shelf.pool n ≡ Some text)
+    by None f g = absurd cc
+    by (Some m) f g =
+        subst (λ (p : Texts). (n : ℕ) × (text_numbered p n ≡ Some text)) (ap (λ (s : Shelf). s.pool) is) (has m f q text g)
+
 -- titles
 -- ======
 

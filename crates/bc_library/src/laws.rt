@@ -5,7 +5,7 @@ ghost use Rattle.mpy_base.specs.declared.limits.TheConstants.{MAX_MODULES};
 ghost use Rattle.mpy_tree.specs.File.{IsModule};
 ghost use Rattle.mpy_tree.specs.Raw.{Module};
 ghost use Rattle.bc_verify.specs.Verified.{IsVerified};
-ghost use Rattle.bc_library.specs.Shelf.{Named, module_at};
+ghost use Rattle.bc_library.specs.Shelf.{Named, module_at, table_text};
 ghost use Rattle.bc_library.specs.Texts.{text_numbered};
 
 use crate::library::Library;
@@ -28,6 +28,14 @@ pub fn modules_law(lib: &Library)
         → a.name ≡ b.name → i ≡ k }
     ensures files { (i : ℕ) (m : Module) → module_at lib.now i ≡ Some m → IsModule m }
     ensures verified { (i : ℕ) (m : Module) → module_at lib.now i ≡ Some m → IsVerified m }
+{
+    let _ = &lib.modules;
+}
+
+/// What holds of the texts of every library: each text of a module's table has a number, static or of the pool.
+pub fn texts_law(lib: &Library)
+    ensures { (i qstr : ℕ) (text : List ℕ) → table_text lib.now i qstr ≡ Some text
+        → (n : ℕ) × (text_numbered lib.now.pool n ≡ Some text) }
 {
     let _ = &lib.modules;
 }

@@ -11,6 +11,6 @@ mod texts;
 
 pub use bc_verify::{Verified, verify};
 pub use fault::{LibFault, Member};
-pub use laws::{library_law, modules_law};
+pub use laws::{library_law, modules_law, texts_law};
 pub use library::Library;
 pub use texts::Title;

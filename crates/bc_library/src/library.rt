@@ -1,12 +1,15 @@
 //! Libraries.
 
-ghost use Rattle.std.specs.Prelude.{◌≡◌, ◌↔◌, ℕ, ◌^◌, ◌<◌, ◌≤◌, List, [], ◌∷◌, ◌++◌, length, All, Ok, Err, None, Some, IsSome, IsTrue, IfNone, IfOk, IfSome, IfErr, OnOk, OnErr, IsErrOf, position, map, option_copied, option_and_then, slice_get};
+ghost use Rattle.std.specs.Prelude.{◌≡◌, ◌↔◌, ℕ, ◌^◌, ◌<◌, ◌≤◌, List, [], ◌∷◌, ◌++◌, length, All, Ok, Err, None, Some, IsSome};
+ghost use Rattle.std.specs.Prelude.{IsTrue, IfNone, IfOk, IfSome, IfErr, OnOk, OnErr, IsErrOf, position, map, option_copied};
+ghost use Rattle.std.specs.Prelude.{option_and_then, slice_get};
 ghost use Rattle.std.specs.List.{list_any};
+ghost use Rattle.std.specs.Option.{option_map};
 ghost use Rattle.std.specs.Str.{bytes_eq};
 ghost use Rattle.mpy_base.specs.declared.refused.Refused.TheVariants as refused;
 ghost use Rattle.bc_verify.specs.qstr_pool.Full.{pool_full};
 ghost use Rattle.bc_library.specs.Added.{IsBrought};
-ghost use Rattle.bc_library.specs.Constants.{object_value};
+ghost use Rattle.bc_library.specs.Constants.{constants_of, object_value};
 ghost use Rattle.bc_library.specs.Greatest.{IsGreatestIn, ShelfHas};
 ghost use Rattle.bc_library.specs.Kept.{OneHas};
 ghost use Rattle.bc_library.specs.Own.{IsOwnPool};
@@ -362,6 +365,16 @@ impl Library {
     {
         let loaded = self.modules.get(module_number as usize)?;
         loaded.values.get(number as usize).copied()
+    }
+
+    /// How many constants the module has: its objects, and the items of their tuples.
+    pub fn constant_count(&self, module_number: u32) -> Option<usize>
+        ensures { result ≡ option_map (λ m. length (constants_of m)) (module_at self.now module_number) }
+    {
+        match loaded_at(&self.modules, module_number) {
+            Some(loaded) => Some(loaded.parts.len()),
+            None => None,
+        }
     }
 
     /// The greatest n_state and n_exc of all codes, 0 where there are none.

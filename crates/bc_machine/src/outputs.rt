@@ -16,7 +16,8 @@ use crate::running::{prefix_law, runs_law};
 /// In a world in which something was printed before, a run begins, goes on and ends as it does otherwise, and its output stands
 /// behind that.
 pub fn output_law()
-    ensures starts { (library : Library) (name : Name) (w : PlainWorld) (front : List ℕ) → start library name (behind front w) ≡ state_behind front (start library name w) }
+    ensures starts { (library : Library) (name : Name) (w : PlainWorld) (front : List ℕ)
+        → start library name (behind front w) ≡ state_behind front (start library name w) }
     ensures steps { (library : Library) (n : ℕ) (s : State) (front : List ℕ) → steps library n (state_behind front s) ≡ state_behind front (steps library n s) }
     ensures runs { (library : Library) (name : Name) (cells bytes : ℕ) (ports : List PortState) (n : ℕ) (front : List ℕ)
         → run_of (steps library n (start library name (behind front (new_world cells bytes ports)))) ≡ run_behind front (run library name cells bytes ports n) }

@@ -19,7 +19,8 @@ Operand (forms.Number op) bytes instr = (n : ℕ) × numbers.Spells bytes n × (
 Operand (forms.Call op) bytes instr = (n : ℕ) × numbers.Spells bytes n × (n < 2 ^ 16) × (instr ≡ instrs.Num op n)
 Operand forms.Signed bytes instr = (z : ℤ) × integers.Spells bytes z × (instr ≡ instrs.Int z)
 Operand (forms.Offset op signed) bytes instr = (offset : ℤ) × (wide : Bool) × offsets.Spells signed wide bytes offset × (instr ≡ instrs.Jump op offset wide)
-Operand forms.Unwind bytes instr = (text : List ℕ) × (byte : ℕ) × (offset : ℤ) × (wide : Bool) × offsets.Spells true wide text offset × (bytes ≡ text ++ byte ∷ []) × (instr ≡ instrs.Unwind offset wide byte)
+Operand forms.Unwind bytes instr = (text : List ℕ) × (byte : ℕ) × (offset : ℤ) × (wide : Bool) × offsets.Spells true wide text offset
+    × (bytes ≡ text ++ byte ∷ []) × (instr ≡ instrs.Unwind offset wide byte)
 Operand forms.Outside bytes instr = ⊥
 Operand forms.Unknown bytes instr = ⊥
 

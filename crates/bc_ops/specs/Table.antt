@@ -3,7 +3,16 @@ use Rattle.std.specs.Prelude.{ℕ, ◌-◌, List, [], ◌∷◌, pos, ◌-ℤ◌
 use Rattle.bc_ops.specs.declared.form.Form.{Form}
 use Rattle.bc_ops.specs.declared.form.Form.TheVariants.{Whole, Name, Number, Call, Signed, Offset, Unwind, Outside, Unknown}
 use Rattle.bc_ops.specs.declared.instr.Op.{Op}
-use Rattle.bc_ops.specs.declared.instr.Op.TheVariants.{LoadConstString, LoadName, LoadGlobal, LoadAttr, LoadMethod, StoreName, StoreGlobal, StoreAttr, DeleteName, DeleteGlobal, ImportName, ImportFrom, LoadConstObj, LoadFastN, StoreFastN, DeleteFast, BuildTuple, BuildList, BuildMap, UnpackSequence, MakeFunction, MakeFunctionDefargs, CallFunction, CallMethod, Jump, PopJumpIfTrue, PopJumpIfFalse, JumpIfTrueOrPop, JumpIfFalseOrPop, SetupExcept, SetupFinally, PopExceptJump, ForIter, LoadConstFalse, LoadConstNone, LoadConstTrue, LoadNull, LoadSubscr, StoreSubscr, DupTop, DupTopTwo, PopTop, RotTwo, RotThree, EndFinally, GetIterStack, StoreMap, ReturnValue, RaiseLast, RaiseObj, LoadFast, StoreFast}
+use Rattle.bc_ops.specs.declared.instr.Op.TheVariants.{LoadConstString, LoadName, LoadGlobal, LoadAttr, LoadMethod, StoreName}
+use Rattle.bc_ops.specs.declared.instr.Op.TheVariants.{StoreGlobal, StoreAttr, DeleteName, DeleteGlobal, ImportName, ImportFrom}
+use Rattle.bc_ops.specs.declared.instr.Op.TheVariants.{LoadConstObj, LoadFastN, StoreFastN, DeleteFast, BuildTuple, BuildList}
+use Rattle.bc_ops.specs.declared.instr.Op.TheVariants.{BuildMap, UnpackSequence, MakeFunction, MakeFunctionDefargs, CallFunction}
+use Rattle.bc_ops.specs.declared.instr.Op.TheVariants.{CallMethod, Jump, PopJumpIfTrue, PopJumpIfFalse, JumpIfTrueOrPop}
+use Rattle.bc_ops.specs.declared.instr.Op.TheVariants.{JumpIfFalseOrPop, SetupExcept, SetupFinally, PopExceptJump, ForIter}
+use Rattle.bc_ops.specs.declared.instr.Op.TheVariants.{LoadConstFalse, LoadConstNone, LoadConstTrue, LoadNull, LoadSubscr}
+use Rattle.bc_ops.specs.declared.instr.Op.TheVariants.{StoreSubscr, DupTop, DupTopTwo, PopTop, RotTwo, RotThree, EndFinally}
+use Rattle.bc_ops.specs.declared.instr.Op.TheVariants.{GetIterStack, StoreMap, ReturnValue, RaiseLast, RaiseObj, LoadFast}
+use Rattle.bc_ops.specs.declared.instr.Op.TheVariants.{StoreFast}
 use Rattle.bc_ops.specs.declared.instr.Instr.TheVariants.{Plain, Num, Int, Unary, Binary}
 
 -- the byte that an operation's instructions begin with

@@ -1,7 +1,9 @@
 //! The table of a code's lines.
 
-ghost use Rattle.std.specs.Prelude.{◌≡◌, ℕ, ◌+◌, ◌-◌, ◌*◌, ◌/◌, ◌%◌, ◌<◌, ◌≤◌, ◌^◌, List, [], ◌∷◌, ◌++◌, All, length, drop, min, map, MatchOption, OnOk, OnErr, IsTrue, false};
-ghost use Rattle.bc_prelude.specs.Lines.{entries_of, line_of, lines_together, is_short, bytes_taken, lines_taken, entry_bytes, change, table_of, table_behind, Rises, RisesFrom, line_among};
+ghost use Rattle.std.specs.Prelude.{◌≡◌, ℕ, ◌+◌, ◌-◌, ◌*◌, ◌/◌, ◌%◌, ◌<◌, ◌≤◌, ◌^◌, List, [], ◌∷◌, ◌++◌, All, length, drop, min};
+ghost use Rattle.std.specs.Prelude.{map, MatchOption, OnOk, OnErr, IsTrue, false};
+ghost use Rattle.bc_prelude.specs.Lines.{entries_of, line_of, lines_together, is_short, bytes_taken, lines_taken, entry_bytes};
+ghost use Rattle.bc_prelude.specs.Lines.{change, table_of, table_behind, Rises, RisesFrom, line_among};
 
 use mpy_base::NoMemory;
 

@@ -3,7 +3,8 @@
 ghost use Rattle.std.specs.Prelude.{◌≡◌, ℕ, ◌+◌, ◌-◌, ◌<◌, ◌≤◌, ◌^◌, ◌↔◌, List, ◌++◌, length, min, IfOk, OnOk, OnErr, IsErrOf, Ok};
 ghost use Rattle.bc_prelude.specs.declared.signature.Signature.{Signature};
 ghost use Rattle.bc_prelude.specs.Chain.{IsChain, HasNoEnd};
-ghost use Rattle.bc_prelude.specs.Signature.{slots_of, handlers_of, arguments_of, flags_of, kwonly_of, defaults_of, IsSignature, SignaturePasses, SignatureOutside, IsWritable, spelling};
+ghost use Rattle.bc_prelude.specs.Signature.{slots_of, handlers_of, arguments_of, flags_of, kwonly_of, defaults_of, IsSignature};
+ghost use Rattle.bc_prelude.specs.Signature.{SignaturePasses, SignatureOutside, IsWritable, spelling};
 
 use crate::chain::{chain_end, joined, number};
 use crate::fault::PreludeFault;

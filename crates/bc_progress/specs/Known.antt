@@ -1,7 +1,8 @@
 -- What a state keeps is true of the objects of its heap.
 use Rattle.std.specs.Prelude.{◌≡◌, ℕ, List, Option, Some, None}
 use Rattle.bc_machine.specs.mpy_base.declared.builtin.Builtin.{Builtin}
-use Rattle.bc_machine.specs.mpy_base.World.{ObjectKind, AList, ATuple, AText, ADict, AFunction, AnException, AMethod, ARange, AModule, Objects, object, kind_of, IsA}
+use Rattle.bc_machine.specs.mpy_base.World.{ObjectKind, AList, ATuple, AText, ADict, AFunction, AnException, AMethod, ARange}
+use Rattle.bc_machine.specs.mpy_base.World.{AModule, Objects, object, kind_of, IsA}
 use Rattle.bc_machine.specs.mpy_base.Val.{Val, Nil, Truth, Int, Str, Fixed, Empty, Built, At}
 use Rattle.bc_machine.specs.py_primitives.Builtins.{named, list_methods, dict_methods, str_methods}
 use Rattle.bc_machine.specs.Growth.{world_of}

@@ -32,10 +32,12 @@ pub data ShowsIn (facts : Facts) : Slot → flow.Slot → Type 0 where
 -- slot by slot. A method look-up has two slots: the object lies on its method, or nothing on a value to be called
 pub data ShowsAllIn (facts : Facts) : List Slot → Stack → Type 0 where
   none : ShowsAllIn facts [] []
-  more : {s : Slot} {t : flow.Slot} {slots : List Slot} {stack : Stack} → ShowsIn facts s t → ShowsAllIn facts slots stack → ShowsAllIn facts (s ∷ slots) (t ∷ stack)
+  more : {s : Slot} {t : flow.Slot} {slots : List Slot} {stack : Stack} → ShowsIn facts s t → ShowsAllIn facts slots stack
+      → ShowsAllIn facts (s ∷ slots) (t ∷ stack)
   bound : {object : Val} {method : Builtin} {slots : List Slot} {stack : Stack} → facts.method object method → ShowsAllIn facts slots stack
       → ShowsAllIn facts (Object (Some object) ∷ Value (Built method) ∷ slots) (flow.Method ∷ flow.Value ∷ stack)
-  free : {v : Val} {slots : List Slot} {stack : Stack} → ShowsAllIn facts slots stack → ShowsAllIn facts (Object None ∷ Value v ∷ slots) (flow.Method ∷ flow.Value ∷ stack)
+  free : {v : Val} {slots : List Slot} {stack : Stack} → ShowsAllIn facts slots stack
+      → ShowsAllIn facts (Object None ∷ Value v ∷ slots) (flow.Method ∷ flow.Value ∷ stack)
 
 -- a slot is one of the flow's, whatever exceptions and methods there are
 abbrev pub Shows : Slot → flow.Slot → Type 0

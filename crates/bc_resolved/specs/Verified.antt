@@ -18,7 +18,8 @@ flow_of body = record {
 
 -- a code of a tree keeps the rules: each of its instructions does, with its text or object found, and so does its flow
 pub record IsVerifiedBody (children : ℕ) (body : Body) : Type 0 where
-  pub instructions : (p : ℕ) (r : Resolved) → slice_get (instrs_of body) p ≡ Some r → Keeps (length body.lines) body.n_state children (item_of (length body.lines) r)
+  pub instructions : (p : ℕ) (r : Resolved) → slice_get (instrs_of body) p ≡ Some r
+      → Keeps (length body.lines) body.n_state children (item_of (length body.lines) r)
   pub flow : Verified (flow_of body)
 
 -- how many trees these are

@@ -110,6 +110,24 @@ past_tables (t ∷ tables) (suc i) e = let le = past_tables tables i e in omega 
 pub table_missing : (shelf : Shelf) (tables : List (List Row)) (named : List (Option ℕ)) (i k : ℕ) → IsKept shelf tables named → slice_get tables i ≡ None → code_numbered shelf i k ≡ None
 table_missing shelf tables named i k kept e = ap (option_and_then (λ (m : Module). slice_get (codes_of m) k)) (kept.all i (past_tables tables i e))
 
+-- the row of a code
+row_of_code : (shelf : Shelf) (i : ℕ) (codes : List Placed) (rows : List Row) (k : ℕ) (code : Placed) → AreRows shelf i codes rows → slice_get codes k ≡ Some code → (row : Row) × IsRowOf shelf i code row
+row_of_code shelf i [] rows k code h e = absurd cc
+row_of_code shelf i (c ∷ codes) [] k code h e = absurd h
+row_of_code shelf i (c ∷ codes) (r ∷ rows) zero code h e = let same : c ≡ code = cc in (r, subst (λ z. IsRowOf shelf i z r) same h.0)
+row_of_code shelf i (c ∷ codes) (r ∷ rows) (suc k) code h e = row_of_code shelf i codes rows k code h.1 e
+
+pub has_row : (shelf : Shelf) (tables : List (List Row)) (named : List (Option ℕ)) (i k : ℕ) (code : Placed) → IsKept shelf tables named → code_numbered shelf i k ≡ Some code → (row : Row) × IsRow shelf i k row
+has_row shelf tables named i k code kept e = by (slice_get tables i) refl
+  where
+    by : (o : Option (List Row)) → slice_get tables i ≡ o → (row : Row) × IsRow shelf i k row
+    by None f = absurd (let no : Some code ≡ None = sym e ∙ table_missing shelf tables named i k kept f in cc)
+    by (Some rows) f =
+        let t = kept.rows i rows f in
+        let there : slice_get (codes_of t.0) k ≡ Some code = sym (code_in shelf i k t.0 (slice_get (codes_of t.0) k) t.1 refl) ∙ e in
+        let r = row_of_code shelf i (codes_of t.0) rows k code t.3 there in
+        (r.0, record { code = code; there = e; is_row = r.1 })
+
 -- names
 -- =====
 

@@ -3,7 +3,9 @@
 ghost use Rattle.std.specs.Prelude.{◌≡◌, ℕ, ◌≤◌, ◌<◌, ◌^◌, length, None, Some, IfOk, IfNone, IfSome, option_copied, slice_get};
 ghost use Rattle.bc_machine.specs.mpy_tree.File.{IsModule};
 ghost use Rattle.bc_machine.specs.mpy_tree.Raw.{Module};
+ghost use Rattle.bc_machine.specs.mpy_tree.Codes.{Placed};
 ghost use Rattle.bc_library.specs.Shelf.{module_at};
+ghost use Rattle.bc_rows.specs.declared.row.Row.{Row as CodeRow};
 ghost use Rattle.bc_rows.specs.Codes.{code_numbered};
 ghost use Rattle.bc_rows.specs.Made.{AreNamed, AreTables, module_in};
 ghost use Rattle.bc_rows.specs.Rows.{IsRow, module_named};
@@ -131,6 +133,13 @@ impl<'a> Rows<'a> {
     /// What holds of the library's modules: each is one that a file holds.
     pub fn modules_law(&self)
         ensures { (i : ℕ) (m : Module) → module_at self.now i ≡ Some m → IsModule m }
+    {
+        let _ = &self.library;
+    }
+
+    /// Each code of the library has a row.
+    pub fn codes_law(&self)
+        ensures { (i k : ℕ) (code : Placed) → code_numbered self.now i k ≡ Some code → (row : CodeRow) × IsRow self.now i k row }
     {
         let _ = &self.library;
     }

@@ -1,5 +1,6 @@
 -- What a pattern of instructions stands in: one function's code, and what its names are.
-use Rattle.std.specs.Prelude.{◌≡◌, ℕ, zero, suc, ◌+◌, List, length, Bool, true, false, Option, Some, None, nat_eq, nat_lt, nat_le, position, bytes_eq, slice_get, if◌then◌else◌}
+use Rattle.std.specs.Prelude.{◌≡◌, ℕ, zero, suc, ◌+◌, List, length, Bool, true, false, Option, Some, None, nat_eq, nat_lt, nat_le}
+use Rattle.std.specs.Prelude.{position, bytes_eq, slice_get, if◌then◌else◌}
 use Rattle.bc_machine.specs.mpy_base.Val.{Val, Nil, Truth, Int, Str}
 use Rattle.bc_machine.specs.bc_ops.declared.instr.Op.{Op}
 use Rattle.bc_machine.specs.bc_ops.declared.instr.Op.TheVariants as ops

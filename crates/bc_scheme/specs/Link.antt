@@ -18,7 +18,8 @@ mutual
   -- one for each unit, of which there is a first
   pub data AreModulesOf : Units → ResolvedModule → List ResolvedModule → Type 0 where
     last_unit : {u : Unit} {m : ResolvedModule} → IsModuleOf u m → AreModulesOf (Part u) m []
-    next_unit : {u : Unit} {us : Units} {m n : ResolvedModule} {ns : List ResolvedModule} → IsModuleOf u m → AreModulesOf us n ns → AreModulesOf (Parts u us) m (n ∷ ns)
+    next_unit : {u : Unit} {us : Units} {m n : ResolvedModule} {ns : List ResolvedModule} → IsModuleOf u m → AreModulesOf us n ns
+        → AreModulesOf (Parts u us) m (n ∷ ns)
 
 -- an entry is absent, refused, or a unit's module, on both sides
 abbrev pub IsEntryOf : Option programs.Entry → Option libraries.Entry → Type 0
@@ -30,4 +31,5 @@ IsEntryOf None entry = entry ≡ None
 -- the library may have the main module there
 pub record Links (program : Program) (library : Library) : Type 0 where
   pub main : IsEntryOf (Some (programs.Runs program.main)) (libraries.entry_in library program.main_name)
-  pub entries : (name : Name) → (name ≡ codes "__main__" → program.main_name ≡ codes "__main__" → ⊥) → IsEntryOf (programs.entry_in program.entries name) (libraries.entry_in library name)
+  pub entries : (name : Name) → (name ≡ codes "__main__" → program.main_name ≡ codes "__main__" → ⊥)
+      → IsEntryOf (programs.entry_in program.entries name) (libraries.entry_in library name)

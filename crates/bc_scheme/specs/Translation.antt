@@ -3,7 +3,8 @@ use Rattle.std.specs.Prelude.{◌≡◌, ℕ, suc, ◌+◌, max, List, [], ◌�
 use Rattle.bc_machine.specs.bc_ops.declared.instr.Op.TheVariants as ops
 use Rattle.bc_machine.specs.mpy_tree.Resolved.{Body, Tree, node, Trees, no_more, more, ResolvedModule}
 use Rattle.bc_machine.specs.Library.{Code, codes_from}
-use Rattle.py_meaning.specs.Tree.{Stmt, If, While, For, Try, Finally, TryFinally, Def, Block, End, Next, Branches, Else, Case, Handlers, NoHandler, Any, On, OnAs}
+use Rattle.py_meaning.specs.Tree.{Stmt, If, While, For, Try, Finally, TryFinally, Def, Block, End, Next, Branches, Else, Case}
+use Rattle.py_meaning.specs.Tree.{Handlers, NoHandler, Any, On, OnAs}
 use Rattle.py_meaning.specs.Program.{Source, Text, source_texts}
 use Rattle.bc_scheme.specs.Context.{line_before, plain}
 use Rattle.bc_scheme.specs.Statements.{StandsB}
@@ -46,7 +47,15 @@ pub record StandsCode (codes : List Code) (is_module : Bool) (text : Text) (code
   pub last : ℕ
   pub length : length code.lines ≡ suc (suc last)
   pub body :
-      StandsB (record { lines = code.lines; level = text.level; is_module = is_module; locals = text.locals; children = code.children; base = text.base; codes = codes })
+      StandsB (record {
+        lines = code.lines;
+        level = text.level;
+        is_module = is_module;
+        locals = text.locals;
+        children = code.children;
+        base = text.base;
+        codes = codes;
+      })
       (record { brk = last; cont = last; count = 0; iterator = false }) 0 text.body last
   pub none : slice_get code.lines last ≡ Some (record { item = plain ops.LoadConstNone; line = line_before code.lines last })
   pub return : slice_get code.lines (suc last) ≡ Some (record { item = plain ops.ReturnValue; line = line_before code.lines (suc last) })

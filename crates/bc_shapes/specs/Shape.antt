@@ -1,5 +1,6 @@
 -- Kinds of slots, shapes, their order and where two meet.
-use Rattle.std.specs.Prelude.{◌≡◌, ℕ, suc, Bool, true, false, not, ◌&&◌, List, [], ◌∷◌, ◌++◌, map, get_or, drop, replicate, Option, Some, None, nat_eq, if◌then◌else◌}
+use Rattle.std.specs.Prelude.{◌≡◌, ℕ, suc, Bool, true, false, not, ◌&&◌, List, [], ◌∷◌, ◌++◌, map, get_or, drop, replicate}
+use Rattle.std.specs.Prelude.{Option, Some, None, nat_eq, if◌then◌else◌}
 use Rattle.std.specs.List.{list_all}
 use Rattle.bc_shapes.specs.declared.kinds.Kind.{Kind}
 use Rattle.bc_shapes.specs.declared.kinds.Kind.TheVariants as kinds

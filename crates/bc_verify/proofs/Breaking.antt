@@ -9,7 +9,7 @@ use Rattle.mpy_tree.specs.bc_ops.declared.instr.Instr.{Instr}
 use Rattle.mpy_tree.specs.bc_ops.declared.instr.Instr.TheVariants as instrs
 use Rattle.mpy_tree.specs.bc_ops.declared.listing.Item.{Item}
 use Rattle.mpy_tree.specs.bc_ops.declared.listing.Item.TheVariants as items
-use Rattle.bc_certificates.specs.bc_flow.Code.{LeavesCode, item_locals, op_locals, named, op_named}
+use Rattle.bc_refusals.specs.bc_flow.Code.{LeavesCode, item_locals, op_locals, named, op_named}
 use Rattle.mpy_tree.specs.Raw.{Module}
 use Rattle.bc_verify.specs.declared.fault.Rule.{Rule}
 use Rattle.bc_verify.specs.declared.fault.Rule.TheVariants.{Jump, Height, Handlers, Falls, Local, State, Names}

@@ -1,12 +1,12 @@
 -- One first fault at most, and none where a module is verified.
 use Rattle.std.proofs.Common.{◌≡◌, ℕ, zero, suc, ◌<◌, List, [], ◌∷◌, length, Some, inl, inr, refl, sym, ap, subst, ◌∙◌, arith}
 use Rattle.std.specs.Prelude.{slice_get, slice_index, ◌⊎◌}
-use Rattle.bc_certificates.specs.bc_flow.Code.{Code}
-use Rattle.bc_certificates.specs.bc_flow.declared.code.Rule.{Rule as FlowRule}
-use Rattle.bc_certificates.specs.bc_flow.Verified as flow
-use Rattle.bc_certificates.specs.bc_flow.Verified.{FirstFault}
-use Rattle.bc_certificates.proofs.bc_flow_lemmas.Decides.{holds_in, no_means, comes_reached}
-use Rattle.bc_certificates.proofs.bc_flow_lemmas.Unique as unique
+use Rattle.bc_refusals.specs.bc_flow.Code.{Code}
+use Rattle.bc_refusals.specs.bc_flow.declared.code.Rule.{Rule as FlowRule}
+use Rattle.bc_refusals.specs.bc_flow.Verified as flow
+use Rattle.bc_refusals.specs.bc_flow.Verified.{FirstFault}
+use Rattle.bc_refusals.proofs.bc_flow_lemmas.Decides.{holds_in, no_means, comes_reached}
+use Rattle.bc_refusals.proofs.bc_flow_lemmas.Unique as unique
 use Rattle.mpy_tree.specs.declared.raw.RawCode.{RawCode, out-RawCode}
 use Rattle.mpy_tree.specs.Raw.{Module}
 use Rattle.bc_verify.specs.declared.fault.Rule.{Rule}

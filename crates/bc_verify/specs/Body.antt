@@ -4,9 +4,9 @@ use Rattle.mpy_tree.specs.bc_ops.declared.listing.Item.{Item}
 use Rattle.mpy_tree.specs.bc_ops.Listing.{Lists}
 use Rattle.mpy_tree.specs.bc_prelude.declared.prelude.Prelude.{Prelude}
 use Rattle.mpy_tree.specs.bc_prelude.Prelude.{Begins}
-use Rattle.bc_certificates.specs.bc_flow.declared.code.Code.{Code as RustCode}
-use Rattle.bc_certificates.specs.bc_flow.Action.{action}
-use Rattle.bc_certificates.specs.bc_flow.Code.{Code, locals}
+use Rattle.bc_refusals.specs.bc_flow.declared.code.Code.{Code as RustCode}
+use Rattle.bc_refusals.specs.bc_flow.Action.{action}
+use Rattle.bc_refusals.specs.bc_flow.Code.{Code, locals}
 
 -- the instructions, and the numbers of the prelude
 pub record Body : Type 0 where

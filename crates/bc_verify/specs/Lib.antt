@@ -1,4 +1,4 @@
-pub use Rattle.bc_certificates.specs.bc_flow
+pub use Rattle.bc_refusals.specs.bc_flow
 pub use Rattle.bc_flow.specs.bc_shapes
 pub use Rattle.mpy_tree.specs as mpy_tree
 pub use Rattle.mpy_tree.specs.bc_prelude

@@ -2,8 +2,8 @@
 use Rattle.std.specs.Prelude.{ℕ, List, codes}
 use Rattle.bc_verify.specs.declared.fault.Rule.{Rule}
 use Rattle.bc_verify.specs.declared.fault.Rule.TheVariants.{Jump, Height, Handlers, Falls, Local, State, Names}
-use Rattle.bc_certificates.specs.bc_flow.declared.code.Rule as flow
-use Rattle.bc_certificates.specs.bc_flow.declared.code.Rule.TheVariants as flows
+use Rattle.bc_refusals.specs.bc_flow.declared.code.Rule as flow
+use Rattle.bc_refusals.specs.bc_flow.declared.code.Rule.TheVariants as flows
 
 -- the number of a rule, which the line tells
 abbrev pub number_of : Rule → ℕ

@@ -5,7 +5,7 @@ use Rattle.mpy_tree.specs.bc_ops.declared.instr.Op.TheVariants as ops
 use Rattle.mpy_tree.specs.bc_ops.declared.instr.Instr.TheVariants as instrs
 use Rattle.mpy_tree.specs.bc_ops.declared.listing.Item.{Item}
 use Rattle.mpy_tree.specs.bc_ops.declared.listing.Item.TheVariants.{Plain}
-use Rattle.bc_certificates.specs.bc_flow.Code.{LeavesCode, item_locals, named}
+use Rattle.bc_refusals.specs.bc_flow.Code.{LeavesCode, item_locals, named}
 use Rattle.mpy_tree.specs.Raw.{Module}
 use Rattle.bc_verify.specs.declared.fault.Rule.{Rule}
 use Rattle.bc_verify.specs.declared.fault.Rule.TheVariants as rules

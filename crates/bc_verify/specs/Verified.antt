@@ -2,10 +2,10 @@
 use Rattle.std.specs.Prelude.{◌≡◌, ◌⊎◌, ℕ, List, ◌∷◌, length, Some, slice_index}
 use Rattle.mpy_tree.specs.declared.raw.RawCode.{RawCode, out-RawCode}
 use Rattle.mpy_tree.specs.Raw.{Module}
-use Rattle.bc_certificates.specs.bc_flow.declared.code.Rule.{Rule as FlowRule}
-use Rattle.bc_certificates.specs.bc_flow.declared.walk.State.{State}
-use Rattle.bc_certificates.specs.bc_flow.Verified as flow
-use Rattle.bc_certificates.specs.bc_flow.Views.{table_of}
+use Rattle.bc_refusals.specs.bc_flow.declared.code.Rule.{Rule as FlowRule}
+use Rattle.bc_refusals.specs.bc_flow.declared.walk.State.{State}
+use Rattle.bc_refusals.specs.bc_flow.Verified as flow
+use Rattle.bc_refusals.specs.bc_flow.Views.{table_of}
 use Rattle.bc_verify.specs.declared.fault.Rule.{Rule}
 use Rattle.bc_verify.specs.declared.fault.VerifyFault.{VerifyFault}
 use Rattle.bc_verify.specs.Body.{Body, Says, flow_of}

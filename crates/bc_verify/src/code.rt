@@ -7,13 +7,13 @@ ghost use Rattle.bc_verify.specs.Body.{Body, Says, body_of};
 ghost use Rattle.bc_verify.specs.Verified.{IsVerifiedCode, IsFirstIn, IsCodeFault, TellsLeast};
 ghost use Rattle.bc_verify.specs.Rules.{KeepsAll};
 ghost use Rattle.mpy_tree.specs.Raw.{Module};
-ghost use Rattle.bc_certificates.specs.bc_flow.Verified.{Verified};
-ghost use Rattle.bc_certificates.specs.bc_flow.Code.{code_of};
+ghost use Rattle.bc_refusals.specs.bc_flow.Verified.{FirstFault, Verified};
+ghost use Rattle.bc_refusals.specs.bc_flow.Code.{code_of};
 
 use crate::fault::Rule;
 use crate::instruction::{Broken, first_broken, of_flow_rule};
-use bc_certificates::certified;
-use bc_flow::{Code, State, flow, items_of};
+use bc_flow::{Code, Fault, State, flow, items_of};
+use bc_refusals::{Judgement, judge};
 use mpy_base::NoMemory;
 use mpy_base::limits::MAX_CODE_BYTES;
 use mpy_tree::{RawCode, RawModule, parts_of};
@@ -45,8 +45,23 @@ pub(crate) fn read_code(alloc: Global, bytes: &[u8]) -> Result<Decoded, NoMemory
     })
 }
 
-/// The first fault of a code with `children` children, by its instructions and then by its flow. Most verified code has a certificate,
-/// which is found sooner than the flow ends.
+/// The first fault of a code's flow. Most codes have rows that show what it is, or that there is none, and that are found sooner than the
+/// flow ends.
+fn flow_fault(alloc: Global, code: &Code) -> Result<Option<Fault>, NoMemory>
+    ensures some { IfOk result (λ o. IfSome o (λ f. FirstFault (code_of code.now) f.rule f.position)) }
+    ensures none { IfOk result (λ o. IfNone o (Verified (code_of code.now))) }
+{
+    match judge(alloc, code)? {
+        Judgement::Verified => Ok(None),
+        Judgement::Refused(fault) => Ok(Some(fault)),
+        Judgement::Unknown => match flow(alloc, code)? {
+            Ok(_) => Ok(None),
+            Err(fault) => Ok(Some(fault)),
+        },
+    }
+}
+
+/// The first fault of a code with `children` children, by its instructions and then by its flow.
 fn first_in(
     alloc: Global,
     module: &RawModule,
@@ -60,12 +75,9 @@ fn first_in(
     if let Some(broken) = first_broken(module, children, code) {
         return Ok(Some(broken));
     }
-    if certified(alloc, code)? {
-        return Ok(None);
-    }
-    match flow(alloc, code)? {
-        Ok(_) => Ok(None),
-        Err(fault) => Ok(Some(Broken {
+    match flow_fault(alloc, code)? {
+        None => Ok(None),
+        Some(fault) => Ok(Some(Broken {
             rule: of_flow_rule(fault.rule),
             position: fault.position,
         })),

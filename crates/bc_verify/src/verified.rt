@@ -5,7 +5,7 @@ ghost use Rattle.mpy_base.specs.declared.refused.Refused.TheVariants as refused;
 ghost use Rattle.mpy_tree.specs.declared.raw.RawCode.{RawCode, out-RawCode};
 ghost use Rattle.mpy_tree.specs.File.{IsModule};
 ghost use Rattle.mpy_tree.specs.Raw.{Module};
-ghost use Rattle.bc_certificates.specs.bc_flow.Verified.{Decides};
+ghost use Rattle.bc_refusals.specs.bc_flow.Verified.{Decides};
 ghost use Rattle.bc_verify.specs.Body.{Body, flow_of};
 ghost use Rattle.mpy_tree.specs.Codes.{code_at, codes_of};
 ghost use Rattle.bc_verify.specs.declared.fault.VerifyFault.{VerifyFault};

@@ -8,7 +8,9 @@ use Rattle.board_plan.specs.declared.plan.PlanFault.TheVariants.{BadLine}
 use Rattle.board_plan.specs.Lines.{lines_of}
 use Rattle.board_plan.specs.Plans.{IsPlan, HasFault}
 use Rattle.command_files.specs.mpy_endings.declared.ending.Ending.{Ending}
-use Rattle.command_files.specs.mpy_endings.declared.ending.Ending.TheVariants.{Done, Unaccepted, Unread, Unverified, Unmerged, Unopened, Unfrozen, Unboarded, Different, Stopped, ReadFault, WriteFault, Unwritten, NoMemory, Absent}
+use Rattle.command_files.specs.mpy_endings.declared.ending.Ending.TheVariants.{Done, Unaccepted, Unread, Unverified, Unmerged}
+use Rattle.command_files.specs.mpy_endings.declared.ending.Ending.TheVariants.{Unopened, Unfrozen, Unboarded, Different, Stopped}
+use Rattle.command_files.specs.mpy_endings.declared.ending.Ending.TheVariants.{ReadFault, WriteFault, Unwritten, NoMemory, Absent}
 use Rattle.command_files.specs.mpy_endings.declared.ending.BoardFault.TheVariants as boards
 use Rattle.command_files.specs.Folder.{MayHold}
 

@@ -18,7 +18,8 @@ use meant_files::images_law;
 /// plan that is run on it prints and ends as the program of all these sources means whose main unit is the task's module: without
 /// ports, in the task's room, and with the total of the task's own steps, whatever the other tasks do.
 pub fn board_means_law()
-    ensures { (all : List Sources) (sources : Sources) (below : Shelf) (files : FileOf) (image plan_name : List ℕ) (new : Option FileOf) (before behind : Option (List ℕ)) (place : ℕ)
+    ensures { (all : List Sources) (sources : Sources) (below : Shelf) (files : FileOf) (image plan_name : List ℕ) (new : Option FileOf)
+        (before behind : Option (List ℕ)) (place : ℕ)
         → IsLibraryOf all below → HoldsImageOf below sources files image
         → Boards below image plan_name (Some files) new before behind place Done
         → (plan : Plan) × HoldsPlan (Some files) plan_name plan × (now : FileOf) × (new ≡ Some now)

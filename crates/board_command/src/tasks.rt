@@ -17,7 +17,8 @@ use meant_files::runs_law;
 /// Where the library has the units of a program whose main module is a task's, that task prints and ends as the program means, without
 /// ports, in the task's room and with the total of its own steps: whatever the other tasks do.
 pub fn tasks_law()
-    ensures { (shelf : Shelf) (p : machine.Program) (plan : Plan) (old new : FileOf) (before behind : Option (List ℕ)) (number : ℕ) (task : Task) (program : Program)
+    ensures { (shelf : Shelf) (p : machine.Program) (plan : Plan) (old new : FileOf) (before behind : Option (List ℕ)) (number : ℕ)
+        (task : Task) (program : Program)
         → IsProgramOf shelf p → (ran : HasRun p plan old new before behind) → slice_get plan.tasks number ≡ Some task → AreUnits program shelf
         → program.main_name ≡ task.«module» → RanAsMeant program plan number task new ran.summarizes.lines }
 {

@@ -21,7 +21,8 @@ pub record HaveOutputs (p : Program) (tasks : List Task) (steps_of : ℕ → ℕ
   pub file : FileOf
   pub told : files ≡ Some file
   pub as_many : length runs ≡ length tasks
-  pub each : (i : ℕ) (task : Task) (run : TaskRun) → slice_get tasks i ≡ Some task → slice_get runs i ≡ Some run → HasOutput p task (steps_of i) run (file (out_name i))
+  pub each : (i : ℕ) (task : Task) (run : TaskRun) → slice_get tasks i ≡ Some task → slice_get runs i ≡ Some run
+      → HasOutput p task (steps_of i) run (file (out_name i))
 
 -- more steps for the task of this number
 abbrev pub with_steps : (number steps : ℕ) → (ℕ → ℕ) → ℕ → ℕ

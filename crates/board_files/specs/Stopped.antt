@@ -28,7 +28,8 @@ printed_by p task steps = (run_of_task p.library task steps).world.output
 
 -- The file of each task has what its run printed in the steps that its number gives. One that wasn't written has a front of that.
 pub record HavePrinted (p : Program) (tasks : List Task) (steps_of : ℕ → ℕ) (cut : Option ℕ) (file : FileOf) : Type 0 where
-  pub whole : (number : ℕ) (task : Task) → slice_get tasks number ≡ Some task → cut ≢ Some number → file (out_name number) ≡ Some (printed_by p task (steps_of number))
+  pub whole : (number : ℕ) (task : Task) → slice_get tasks number ≡ Some task → cut ≢ Some number
+      → file (out_name number) ≡ Some (printed_by p task (steps_of number))
   pub front : (number : ℕ) (task : Task) → slice_get tasks number ≡ Some task → cut ≡ Some number
       → (front : List ℕ) × (rest : List ℕ) × (printed_by p task (steps_of number) ≡ front ++ rest) × (file (out_name number) ≡ Some front)
 

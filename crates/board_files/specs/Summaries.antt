@@ -50,7 +50,8 @@ module _ (p : Program) (plan : Plan) where
     pub lines : List (List ℕ)
     pub text_is : text ≡ concat lines
     pub as_many : length lines ≡ length plan.tasks
-    pub each : (number : ℕ) (task : Task) (line : List ℕ) → slice_get plan.tasks number ≡ Some task → slice_get lines number ≡ Some line → SaysRun number (run_in number task) line
+    pub each : (number : ℕ) (task : Task) (line : List ℕ) → slice_get plan.tasks number ≡ Some task → slice_get lines number ≡ Some line
+        → SaysRun number (run_in number task) line
 
   -- each task's file has the output of its run, and each other file is what it was. The summary of the runs was put behind what was
   -- printed, as a whole or not

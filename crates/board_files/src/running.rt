@@ -5,7 +5,7 @@ ghost use Rattle.mpy_base.specs.declared.limits.TheConstants.{MAX_TASKS};
 ghost use Rattle.mpy_io.specs.Count.{Counts};
 ghost use Rattle.board_tasks.specs.vm_starting.Kept.{AreFetched};
 ghost use Rattle.board_tasks.specs.vm_starting.vm_states.Means.{Program};
-ghost use Rattle.board_tasks.specs.vm_starting.Programs.{IsProgramOf, IsRunnable};
+ghost use Rattle.board_tasks.specs.vm_starting.Programs.{IsProgramOf};
 ghost use Rattle.board_tasks.specs.Opened.{AreOpened, first_missing};
 ghost use Rattle.board_tasks.specs.Turns.{AreRuns};
 ghost use Rattle.board_files.specs.Files.{KeepsOthers, StopsWithin, cut_of, is_folder_fault, is_out_fault, is_unwritten};
@@ -32,7 +32,6 @@ fn open_board(
     rows: &Rows<'_>,
     tasks: &[Task],
 ) -> Result<Board, BoardStop>
-    requires runnable { IsRunnable library.now }
     requires rows { rows.now ≡ library.now }
     requires few { length tasks.now ≤ MAX_TASKS }
     ensures opened { IfOk result (AreOpened library.now tasks.now) }
@@ -63,8 +62,10 @@ fn write_output<F: Folder>(
     requires rows { rows.now ≡ library.now }
     requires kept { AreFetched library.now cache.old }
     requires can_run { CanRun plan.now }
-    ensures written { OnOk result ((p : Program) → IsProgramOf library.now p → Written p plan.now board.old board.new (F.files folder.old) (F.files folder.new)) }
-    ensures stopped { IfErr result (λ stop. (p : Program) → IsProgramOf library.now p → HasStoppedIn p plan.now (cut_of stop) (F.files folder.old) (F.files folder.new)) }
+    ensures written { OnOk result ((p : Program) → IsProgramOf library.now p
+        → Written p plan.now board.old board.new (F.files folder.old) (F.files folder.new)) }
+    ensures stopped { IfErr result (λ stop. (p : Program) → IsProgramOf library.now p
+        → HasStoppedIn p plan.now (cut_of stop) (F.files folder.old) (F.files folder.new)) }
     ensures runs { AreRuns library.now board.new }
     ensures few { length board.new ≤ MAX_TASKS }
     ensures others { KeepsOthers (length plan.now.tasks) (F.files folder.old) (F.files folder.new) }
@@ -102,7 +103,8 @@ fn run_turns<F: Folder, S: Sink>(
     requires rows { rows.now ≡ library.now }
     requires kept { AreFetched library.now cache.old }
     requires can_run { CanRun plan.now }
-    ensures ran { OnOk result ((p : Program) → IsProgramOf library.now p → HasRunIn p plan.now (F.files folder.old) (F.files folder.new) (S.told out.old) (S.told out.new)) }
+    ensures ran { OnOk result ((p : Program) → IsProgramOf library.now p
+        → HasRunIn p plan.now (F.files folder.old) (F.files folder.new) (S.told out.old) (S.told out.new)) }
     ensures flushed { OnOk result (S.held out.new ≡ []) }
     ensures there { (name : List ℕ) → result ≡ Err (BoardStop.NoModule name) → ⊥ }
     ensures unwritten { (task : ℕ) → result ≡ Err (BoardStop.Unwritten task) → (task < length plan.now.tasks) × (out.new ≡ out.old) }
@@ -138,9 +140,9 @@ pub fn run_board<F: Folder, S: Sink>(
     folder: &mut F,
     out: &mut S,
 ) -> Result<(), BoardStop>
-    requires runnable { IsRunnable library.now }
-    requires can_run { CanRun plan.now }
-    ensures ran { OnOk result ((p : Program) → IsProgramOf library.now p → HasRunIn p plan.now (F.files folder.old) (F.files folder.new) (S.told out.old) (S.told out.new)) }
+    requires { CanRun plan.now }
+    ensures ran { OnOk result ((p : Program) → IsProgramOf library.now p
+        → HasRunIn p plan.now (F.files folder.old) (F.files folder.new) (S.told out.old) (S.told out.new)) }
     ensures flushed { OnOk result (S.held out.new ≡ []) }
 
     // A module is missing exactly where the library lacks or refuses it; then nothing was written.

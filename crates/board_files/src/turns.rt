@@ -45,7 +45,8 @@ fn make_part<F: Folder>(
     ensures as_many { length board.new ≡ length board.old }
     ensures paid { (paid : ℕ) → PaidWithin board.old paid → PaidWithin board.new (paid + steps) }
     ensures goes { OnOk result ((p : Program) → IsProgramOf library.now p → Goes p task steps board.old board.new (F.files folder.old) (F.files folder.new)) }
-    ensures stopped { IfErr result (λ stop. (p : Program) → IsProgramOf library.now p → StopsIn p task steps (cut_of stop) board.old (F.files folder.old) (F.files folder.new)) }
+    ensures stopped { IfErr result (λ stop. (p : Program) → IsProgramOf library.now p
+        → StopsIn p task steps (cut_of stop) board.old (F.files folder.old) (F.files folder.new)) }
     ensures others { KeepsOthers (length board.old) (F.files folder.old) (F.files folder.new) }
     ensures within { StopsWithin (length board.old) result }
     ensures counts { Counts (F.count folder.old) (F.count folder.new) (is_unwritten result) }
@@ -80,8 +81,10 @@ fn make_turn<F: Folder>(
     ensures kept { AreFetched library.now cache.new }
     ensures as_many { length board.new ≡ length board.old }
     ensures paid { (paid : ℕ) → PaidWithin board.old paid → PaidWithin board.new (paid + turn.steps) }
-    ensures goes { OnOk result ((p : Program) → IsProgramOf library.now p → Goes p turn.task turn.steps board.old board.new (F.files folder.old) (F.files folder.new)) }
-    ensures stopped { IfErr result (λ stop. (p : Program) → IsProgramOf library.now p → StopsIn p turn.task turn.steps (cut_of stop) board.old (F.files folder.old) (F.files folder.new)) }
+    ensures goes { OnOk result ((p : Program) → IsProgramOf library.now p
+        → Goes p turn.task turn.steps board.old board.new (F.files folder.old) (F.files folder.new)) }
+    ensures stopped { IfErr result (λ stop. (p : Program) → IsProgramOf library.now p
+        → StopsIn p turn.task turn.steps (cut_of stop) board.old (F.files folder.old) (F.files folder.new)) }
     ensures others { KeepsOthers (length board.old) (F.files folder.old) (F.files folder.new) }
     ensures within { StopsWithin (length board.old) result }
     ensures counts { Counts (F.count folder.old) (F.count folder.new) (is_unwritten result) }
@@ -116,7 +119,8 @@ pub(crate) fn make_turns<F: Folder>(
     ensures kept { AreFetched library.now cache.new }
     ensures as_many { length board.new ≡ length board.old }
     ensures goes { OnOk result ((p : Program) → IsProgramOf library.now p → GoesBy p turns.now board.old board.new (F.files folder.old) (F.files folder.new)) }
-    ensures stopped { IfErr result (λ stop. (p : Program) → IsProgramOf library.now p → StopsBy p turns.now (cut_of stop) board.old (F.files folder.old) (F.files folder.new)) }
+    ensures stopped { IfErr result (λ stop. (p : Program) → IsProgramOf library.now p
+        → StopsBy p turns.now (cut_of stop) board.old (F.files folder.old) (F.files folder.new)) }
     ensures others { KeepsOthers (length board.old) (F.files folder.old) (F.files folder.new) }
     ensures within { StopsWithin (length board.old) result }
     ensures counts { Counts (F.count folder.old) (F.count folder.new) (is_unwritten result) }

@@ -6,7 +6,6 @@ ghost use Rattle.mpy_base.specs.declared.refused.Refused.TheVariants as refused;
 ghost use Rattle.mpy_io.specs.Count.{Counts};
 ghost use Rattle.bc_library.specs.Shelf.{Shelf};
 ghost use Rattle.vm_machine.specs.vm_starting.Kept.{AreFetched};
-ghost use Rattle.vm_machine.specs.vm_starting.Programs.{IsRunnable};
 ghost use Rattle.board_tasks.specs.declared.turning.TaskRun.{TaskRun};
 ghost use Rattle.board_tasks.specs.Opened.{AreOpened, first_missing};
 ghost use Rattle.board_tasks.specs.Ends.{HasEnd, IsRoomOf, is_write_fault};
@@ -50,8 +49,7 @@ impl Board {
         rows: &Rows<'_>,
         tasks: &[Task],
     ) -> Result<Board, Refused<BoardFault>>
-        requires runnable { IsRunnable library.now }
-        requires rows { rows.now ≡ library.now }
+        requires { rows.now ≡ library.now }
         ensures opened { IfOk result (AreOpened library.now tasks.now) }
         ensures few { OnOk result (length tasks.now ≤ MAX_TASKS) }
         ensures too_many { result ≡ Err (refused.Fault BoardFault.TooMany) → MAX_TASKS < length tasks.now }

@@ -33,7 +33,8 @@ pub fn board_law()
 /// the other tasks do. What it tells is its run's: what was printed, its end and its room.
 pub fn stands_law()
     ensures starts { (shelf : Shelf) (p : Program) (task : Task) (run : TaskRun) → IsProgramOf shelf p → IsOpened shelf task run → Stands p task 0 [] run }
-    ensures turn { (shelf : Shelf) (p : Program) (task : Task) (total count : ℕ) (printed : List ℕ) (old new : TaskRun) (before behind : Option (List ℕ)) (end : TurnEnd)
+    ensures turn { (shelf : Shelf) (p : Program) (task : Task) (total count : ℕ) (printed : List ℕ) (old new : TaskRun)
+        (before behind : Option (List ℕ)) (end : TurnEnd)
         → IsProgramOf shelf p → IsSome before → Stands p task total printed old → TurnsSo shelf count old new before behind end → IsMade end
         → StandsOn p task (total + count) printed new before behind }
     ensures output { (p : Program) (task : Task) (total : ℕ) (printed : List ℕ) (run : TaskRun) → Stands p task total printed run

@@ -2,7 +2,6 @@
 
 ghost use Rattle.std.specs.Prelude.{◌≡◌, IfOk, IsSome, None, option_map};
 ghost use Rattle.board_tasks.specs.Opened.{AreOpened, IsOpened, first_missing, number_of};
-ghost use Rattle.vm_machine.specs.vm_starting.Programs.{IsRunnable};
 
 use crate::turning::TaskRun;
 use bc_library::{Library, Member};
@@ -51,7 +50,6 @@ fn open_task(
     rows: &Rows<'_>,
     task: &Task,
 ) -> Result<TaskRun, NoMemory>
-    requires runnable { IsRunnable library.now }
     requires rows { rows.now ≡ library.now }
     requires there { IsSome (number_of library.now task.now.«module») }
     ensures { IfOk result (IsOpened library.now task.now) }
@@ -71,7 +69,6 @@ pub(crate) fn open_tasks(
     rows: &Rows<'_>,
     tasks: &[Task],
 ) -> Result<Vec<TaskRun>, NoMemory>
-    requires runnable { IsRunnable library.now }
     requires rows { rows.now ≡ library.now }
     requires there { first_missing library.now tasks.now ≡ None }
     ensures { IfOk result (λ runs. AreOpened library.now tasks.now runs.items) }

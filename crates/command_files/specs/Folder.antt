@@ -2,7 +2,9 @@
 use Rattle.std.specs.Prelude.{◌≡◌, ℕ, List, Option, IfSome, ◌≢◌, Some, None, ◌<◌, length}
 use Rattle.mpy_io.specs.Files.{FileOf}
 use Rattle.mpy_endings.specs.declared.ending.Ending.{Ending}
-use Rattle.mpy_endings.specs.declared.ending.Ending.TheVariants.{Done, Unaccepted, Unread, Unverified, Unmerged, Unopened, Unfrozen, Unboarded, Different, Stopped, ReadFault, WriteFault, Unwritten, NoMemory, Absent}
+use Rattle.mpy_endings.specs.declared.ending.Ending.TheVariants.{Done, Unaccepted, Unread, Unverified, Unmerged, Unopened}
+use Rattle.mpy_endings.specs.declared.ending.Ending.TheVariants.{Unfrozen, Unboarded, Different, Stopped, ReadFault, WriteFault}
+use Rattle.mpy_endings.specs.declared.ending.Ending.TheVariants.{Unwritten, NoMemory, Absent}
 use Rattle.mpy_base.specs.declared.limits.TheConstants.{MAX_READ_BYTES}
 use Rattle.mpy_endings.specs.image_open.mpy_reader.declared.fault.FileFault.TheVariants.{TooBig}
 

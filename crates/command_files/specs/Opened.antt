@@ -7,7 +7,9 @@ use Rattle.mpy_endings.specs.image_open.mpy_reader.Reading.{FirstFault}
 use Rattle.mpy_endings.specs.image_open.bc_verify.declared.fault.VerifyFault.{VerifyFault}
 use Rattle.mpy_endings.specs.image_open.bc_verify.Verified.{IsVerified, IsFirstFault}
 use Rattle.mpy_endings.specs.declared.ending.Ending.{Ending}
-use Rattle.mpy_endings.specs.declared.ending.Ending.TheVariants.{Done, Unaccepted, Unread, Unverified, Unmerged, Unopened, Unfrozen, Unboarded, Different, Stopped, ReadFault, WriteFault, Unwritten, NoMemory, Absent}
+use Rattle.mpy_endings.specs.declared.ending.Ending.TheVariants.{Done, Unaccepted, Unread, Unverified, Unmerged, Unopened}
+use Rattle.mpy_endings.specs.declared.ending.Ending.TheVariants.{Unfrozen, Unboarded, Different, Stopped, ReadFault, WriteFault}
+use Rattle.mpy_endings.specs.declared.ending.Ending.TheVariants.{Unwritten, NoMemory, Absent}
 use Rattle.command_files.specs.Folder.{MayHold}
 use Rattle.mpy_endings.specs.Ending.{is_folder_fault}
 

@@ -18,11 +18,19 @@ pub record Outside : Type 0 where
 
 -- what they tell, by their members, in three states
 abbrev pub seen : {F S E : Type 0} → (F → Option FileOf) → (F → ℕ) → (S → Option (List ℕ)) → (S → ℕ) → (E → Option (List ℕ)) → (E → ℕ) → F → S → E → Outside
-seen files folder_faults out out_faults say say_faults f s e = record { files = files f; folder_faults = folder_faults f; out = out s; out_faults = out_faults s; say = say e; say_faults = say_faults e }
+seen files folder_faults out out_faults say say_faults f s e = record {
+  files = files f;
+  folder_faults = folder_faults f;
+  out = out s;
+  out_faults = out_faults s;
+  say = say e;
+  say_faults = say_faults e;
+}
 
 -- A command on the file of this name ended so: why, with what printed, which count of faults rose, and what was said. The
 -- relation says what it has to do with what the folder has and what was printed.
-pub record Ends (Relates : Option FileOf → List ℕ → Ending → Option (List ℕ) → Option (List ℕ) → Type 0) (name : List ℕ) (old new : Outside) (status : ℕ) : Type 0 where
+pub record Ends (Relates : Option FileOf → List ℕ → Ending → Option (List ℕ) → Option (List ℕ)
+    → Type 0) (name : List ℕ) (old new : Outside) (status : ℕ) : Type 0 where
   pub ending : Ending
   pub status_is : status ≡ status_of ending
   pub went : Relates old.files name ending old.out new.out
@@ -53,7 +61,8 @@ pub record WritesOf (Relates : Option FileOf → Option FileOf → ℕ → Endin
   pub says : Says old.say new.say old.say_faults new.say_faults (line_of (slice_index_or words place []) ending)
 
 -- The same of a command that may print and write: the relation speaks of both.
-pub record EndsAt (Relates : (old new : Option FileOf) → (before behind : Option (List ℕ)) → (place : ℕ) → Ending → Type 0) (words : List (List ℕ)) (old new : Outside) (status : ℕ) : Type 0 where
+pub record EndsAt (Relates : (old new : Option FileOf) → (before behind : Option (List ℕ)) → (place : ℕ) → Ending
+    → Type 0) (words : List (List ℕ)) (old new : Outside) (status : ℕ) : Type 0 where
   pub ending : Ending
   pub place : ℕ
   pub status_is : status ≡ status_of ending

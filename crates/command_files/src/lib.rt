@@ -7,7 +7,8 @@ mod reading;
 
 pub use images::{open_base, open_image_file};
 pub use mpy_endings::{
-    BoardFault, Difference, Ended, Ending, Stop, image_library, put_three, say_ending,
+    BoardFault, Difference, Ended, Ending, MainFault, Stop, image_library, open_image, put_three,
+    say_ending, word_at,
 };
 pub use opening::{opened, verified};
 pub use reading::read_file;

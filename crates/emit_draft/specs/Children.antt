@@ -1,6 +1,8 @@
 -- The numbers of the functions of a text, by how many codes each has.
 use Rattle.std.specs.Prelude.{◌≡◌, ℕ, suc, ◌+◌, List, [], ◌∷◌, ◌++◌, length}
-use Rattle.emit_measures.specs.bc_scheme.py_meaning.Tree.{Stmt, If, While, For, Try, Finally, TryFinally, Def, Block, End, Next, Branches, Else, Case, Handlers, NoHandler, Any, On, OnAs, Function, functions}
+use Rattle.emit_measures.specs.bc_scheme.py_meaning.Tree.{Stmt, If, While, For, Try, Finally, TryFinally, Def, Block, End, Next}
+use Rattle.emit_measures.specs.bc_scheme.py_meaning.Tree.{Branches, Else, Case, Handlers, NoHandler, Any, On, OnAs, Function}
+use Rattle.emit_measures.specs.bc_scheme.py_meaning.Tree.{functions}
 use Rattle.emit_measures.specs.bc_scheme.mpy_tree.Resolved.{Trees, no_more, more}
 use Rattle.emit_measures.specs.bc_scheme.bc_machine.Library.{size_of}
 use Rattle.emit_measures.specs.bc_scheme.Translation.{own}

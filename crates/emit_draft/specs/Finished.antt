@@ -29,7 +29,8 @@ IsMade labels item made = (size : ℕ) → item_of size (resolved_item made) ≡
 -- instructions are read as the draft's, one by one, in a code of any size
 abbrev pub AreMade : Labels → List DraftLine → List Item → Type 0
 AreMade labels [] items = items ≡ []
-AreMade labels (line ∷ lines) items = (first : Item) × (others : List Item) × (items ≡ first ∷ others) × IsMade labels line.item first × AreMade labels lines others
+AreMade labels (line ∷ lines) items = (first : Item) × (others : List Item) × (items ≡ first ∷ others) × IsMade labels line.item first
+    × AreMade labels lines others
 
 -- the line of an instruction
 abbrev pub line_number : DraftLine → ℕ

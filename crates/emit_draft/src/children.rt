@@ -26,9 +26,11 @@ pub fn numbers_law()
 /// A code of a finished draft with its children. The machine reads its lines as the draft's, and numbers the children
 /// as their functions where each has as many codes as its function.
 pub fn tree_law()
-    ensures tree { (draft : Draft) (head : CodeHead) (made : CodeLines) (inner : List Code) (code : Code) (trees : Trees) → IsFinished draft made → IsCodeOf head made inner code
+    ensures tree { (draft : Draft) (head : CodeHead) (made : CodeLines) (inner : List Code) (code : Code) (trees : Trees)
+        → IsFinished draft made → IsCodeOf head made inner code
         → AreTreesOf trees inner → IsTreeOf (node (body_of head made) trees) code }
     ensures lines { (draft : Draft) (head : CodeHead) (made : CodeLines) (children : List ℕ) → IsFinished draft made
         → (code_of (body_of head made) children).lines ≡ map (line_at draft.labels.items) draft.lines }
-    ensures children { (n : ℕ) (b : Block) (trees : Trees) → own b ≡ starts (suc n) (sizes b) → tree_sizes trees ≡ sizes b → numbers_from (suc n) trees ≡ map (λ m. 0 + m) (own b) }
+    ensures children { (n : ℕ) (b : Block) (trees : Trees) → own b ≡ starts (suc n) (sizes b) → tree_sizes trees ≡ sizes b
+        → numbers_from (suc n) trees ≡ map (λ m. 0 + m) (own b) }
 {}

@@ -122,7 +122,9 @@ pub fn code_of(head: CodeHead, body: CodeLines, children: Items<Code>) -> Code
 
 /// A code of a finished draft has one body, whose lines the machine reads as those of the draft.
 pub fn body_law()
-    ensures body { (draft : DraftOf) (head : Head) (made : Lines) (children : List CodeTree) (code : CodeTree) → IsFinished draft made → IsCodeOf head made children code → IsBodyOf code (body_of head made) }
-    ensures reads { (draft : DraftOf) (head : Head) (made : Lines) (children : List CodeTree) (code : CodeTree) (body : Body) → IsFinished draft made → IsCodeOf head made children code → IsBodyOf code body
+    ensures body { (draft : DraftOf) (head : Head) (made : Lines) (children : List CodeTree) (code : CodeTree) → IsFinished draft made
+        → IsCodeOf head made children code → IsBodyOf code (body_of head made) }
+    ensures reads { (draft : DraftOf) (head : Head) (made : Lines) (children : List CodeTree) (code : CodeTree) (body : Body)
+        → IsFinished draft made → IsCodeOf head made children code → IsBodyOf code body
         → map (line_of (length body.lines)) body.lines ≡ map (line_at draft.labels.items) draft.lines }
 {}

@@ -1,7 +1,10 @@
 -- What has more members than its instruction can name.
 use Rattle.std.specs.Prelude.{Bool, false, ◌||◌, List, [], ◌∷◌}
 use Rattle.py_tree.specs.declared.expr.CompareOp.{CompareOp}
-use Rattle.emit_draft.specs.bc_scheme.py_meaning.Tree.{Expr, Constant, Named, Unary, Not, Binary, And, Or, Compare, Cond, TupleOf, ListOf, DictOf, Attr, Index, Call, Method, Exprs, NoExpr, More, Links, Last, Link, Pairs, NoPair, Pair, Keys, NoKey, Key, count, pair_count, key_count}
+use Rattle.emit_draft.specs.bc_scheme.py_meaning.Tree.{Expr, Constant, Named, Unary, Not, Binary, And, Or, Compare, Cond, TupleOf}
+use Rattle.emit_draft.specs.bc_scheme.py_meaning.Tree.{ListOf, DictOf, Attr, Index, Call, Method, Exprs, NoExpr, More, Links}
+use Rattle.emit_draft.specs.bc_scheme.py_meaning.Tree.{Last, Link, Pairs, NoPair, Pair, Keys, NoKey, Key, count, pair_count}
+use Rattle.emit_draft.specs.bc_scheme.py_meaning.Tree.{key_count}
 use Rattle.emit_draft.specs.Draft.{passes_items, passes_members}
 
 -- a call in it has more than 255 positional arguments, or keyword arguments, or a display more than 4,096 items

@@ -4,7 +4,13 @@ use Rattle.mpy_base.specs.Val.{Val, Nil, Truth, Int}
 use Rattle.py_tree.specs.declared.expr.CompareOp.{CompareOp}
 use Rattle.py_tree.specs.declared.stmt.Alias.{Alias}
 use Rattle.bc_scheme.specs.py_effects.Modules.{parts_of}
-use Rattle.bc_scheme.specs.py_meaning.Tree.{Name, Expr, Constant, Named, Unary, Not, Binary, And, Or, Compare, Cond, TupleOf, ListOf, DictOf, Attr, Index, Call, Method, Exprs, NoExpr, More, Links, Last, Link, Pairs, NoPair, Pair, Keys, NoKey, Key, Target, ToName, ToAttr, ToIndex, ToEach, Targets, Only, Then, Stmt, Do, Assign, AugName, AugAttr, AugIndex, Delete, Pass, Break, Continue, ReturnNone, Return, Reraise, Raise, Assert, AssertWith, Import, From, If, While, For, Try, Finally, TryFinally, Def, Block, End, Next, Branches, Else, Case, Handlers, NoHandler, Any, On, OnAs}
+use Rattle.bc_scheme.specs.py_meaning.Tree.{Name, Expr, Constant, Named, Unary, Not, Binary, And, Or, Compare, Cond, TupleOf}
+use Rattle.bc_scheme.specs.py_meaning.Tree.{ListOf, DictOf, Attr, Index, Call, Method, Exprs, NoExpr, More, Links, Last, Link}
+use Rattle.bc_scheme.specs.py_meaning.Tree.{Pairs, NoPair, Pair, Keys, NoKey, Key, Target, ToName, ToAttr, ToIndex, ToEach}
+use Rattle.bc_scheme.specs.py_meaning.Tree.{Targets, Only, Then, Stmt, Do, Assign, AugName, AugAttr, AugIndex, Delete, Pass}
+use Rattle.bc_scheme.specs.py_meaning.Tree.{Break, Continue, ReturnNone, Return, Reraise, Raise, Assert, AssertWith, Import, From}
+use Rattle.bc_scheme.specs.py_meaning.Tree.{If, While, For, Try, Finally, TryFinally, Def, Block, End, Next, Branches, Else, Case}
+use Rattle.bc_scheme.specs.py_meaning.Tree.{Handlers, NoHandler, Any, On, OnAs}
 use Rattle.bc_scheme.specs.py_meaning.Statements.{bound_name, from_name, read_parts}
 use Rattle.bc_scheme.specs.Context.{is_negated}
 use Rattle.bc_scheme.specs.Heights.{at_level}
@@ -157,7 +163,8 @@ module _ (locals : List Name) where
       stmt_length held iterator (If branches) = branches_length held iterator branches
       stmt_length held iterator (While e body rest) = expr_length e + block_length false false body + block_length held iterator rest + 6
       stmt_length held iterator (For t e body rest) = expr_length e + store_length t + block_length false true body + block_length held iterator rest + 7
-      stmt_length held iterator (Try body handlers rest) = block_length true iterator body + handlers_length true iterator handlers + block_length held iterator rest + 7
+      stmt_length held iterator (Try body handlers rest) =
+          block_length true iterator body + handlers_length true iterator handlers + block_length held iterator rest + 7
       stmt_length held iterator (Finally body last) = block_length true iterator body + block_length true iterator last + 5
       stmt_length held iterator (TryFinally body handlers rest last) =
           block_length true iterator body + handlers_length true iterator handlers + block_length true iterator rest + block_length true iterator last + 12

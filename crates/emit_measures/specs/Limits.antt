@@ -39,7 +39,8 @@ plain_handler = fold-Handler (Part Stmt) (Part (Branches → Branches)) Clause (
 
 -- a `try`, with a `finally` if it has one
 abbrev pub plain_try : (body : List Statement) (handlers : List Handler) (rest : List Statement) (last : Option (List Statement)) → Part Stmt
-plain_try body handlers rest last = try_of (block (map plain_stmt body)) (map plain_handler handlers) (block (map plain_stmt rest)) (option_map (map plain_stmt) last)
+plain_try body handlers rest last =
+    try_of (block (map plain_stmt body)) (map plain_handler handlers) (block (map plain_stmt rest)) (option_map (map plain_stmt) last)
 
 -- ---- parts of an expression
 

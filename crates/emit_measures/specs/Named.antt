@@ -3,7 +3,10 @@ use Rattle.std.specs.Prelude.{◌≡◌, ℕ, max, ◌≤◌, ◌<◌, Bool, tru
 use Rattle.std.specs.List.{list_all}
 use Rattle.py_tree.specs.declared.stmt.Alias.{Alias}
 use Rattle.bc_scheme.specs.py_scopes.Names.{has}
-use Rattle.bc_scheme.specs.py_meaning.Tree.{Name, Stmt, Do, Assign, AugName, AugAttr, AugIndex, Delete, Pass, Break, Continue, ReturnNone, Return, Reraise, Raise, Assert, AssertWith, Import, From, If, While, For, Try, Finally, TryFinally, Def, Block, End, Next, Branches, Else, Case, Handlers, NoHandler, Any, On, OnAs}
+use Rattle.bc_scheme.specs.py_meaning.Tree.{Name, Stmt, Do, Assign, AugName, AugAttr, AugIndex, Delete, Pass, Break, Continue}
+use Rattle.bc_scheme.specs.py_meaning.Tree.{ReturnNone, Return, Reraise, Raise, Assert, AssertWith, Import, From, If, While, For}
+use Rattle.bc_scheme.specs.py_meaning.Tree.{Try, Finally, TryFinally, Def, Block, End, Next, Branches, Else, Case, Handlers}
+use Rattle.bc_scheme.specs.py_meaning.Tree.{NoHandler, Any, On, OnAs}
 use Rattle.bc_scheme.specs.py_meaning.Program.{Text}
 use Rattle.bc_scheme.specs.py_meaning.Imported.{is_undotted}
 use Rattle.bc_scheme.specs.py_meaning.Locals.{bound_in}

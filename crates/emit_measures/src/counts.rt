@@ -25,7 +25,8 @@ pub fn own_locals_law()
 
 /// The instructions of a text name each local that is no parameter, and no others.
 pub fn locals_law()
-    ensures { (c : Context) (text : Text) → IsCodeOf c text → HasOwnLocals text → TakesUndotted text.body → locals_in (length text.params) c.lines ≡ length text.locals }
+    ensures { (c : Context) (text : Text) → IsCodeOf c text → HasOwnLocals text → TakesUndotted text.body
+        → locals_in (length text.params) c.lines ≡ length text.locals }
 {}
 
 /// The wide length of a text's code is counted on its tree.

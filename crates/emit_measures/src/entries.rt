@@ -68,7 +68,9 @@ fn kind_entries(kind: &StmtKind) -> usize
 /// The bodies of branches in front of an `else`.
 #[cycle(entries)]
 fn branches_entries(branches: &[Branch]) -> usize
-    ensures { (n : ℕ) (rest : Part tree.Branches) → (m : ℕ) × (saturated (held_by ((chain (map plain_branch branches.now) rest).make n)) ≡ max result (saturated (held_by (rest.make m)))) }
+    ensures { (n : ℕ) (rest : Part tree.Branches)
+        → (m : ℕ) × (saturated (held_by ((chain (map plain_branch branches.now) rest).make n))
+        ≡ max result (saturated (held_by (rest.make m)))) }
 {
     let mut entries: usize = 0;
     for branch in branches {

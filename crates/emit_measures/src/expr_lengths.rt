@@ -7,7 +7,9 @@ ghost use Rattle.bc_scheme.specs.py_meaning.Plain.{plain_expr, exprs, operands, 
 ghost use Rattle.bc_scheme.specs.py_meaning.Tree.{And};
 ghost use Rattle.emit_measures.specs.Limits.{saturated, plain_pairs, plain_keys};
 ghost use Rattle.emit_measures.specs.Wide.{wide_int};
-ghost use Rattle.emit_measures.specs.Lengths.{name_length as name_wide, comparison_length as comparison_wide, expr_length as expr_wide, exprs_length as exprs_wide, pairs_length as pairs_wide, keys_length as keys_wide};
+ghost use Rattle.emit_measures.specs.Lengths.{name_length as name_wide, comparison_length as comparison_wide};
+ghost use Rattle.emit_measures.specs.Lengths.{expr_length as expr_wide, exprs_length as exprs_wide, pairs_length as pairs_wide};
+ghost use Rattle.emit_measures.specs.Lengths.{keys_length as keys_wide};
 ghost use Rattle.emit_measures.specs.Rows.{links_wide};
 
 use crate::number_lengths::{both, plus, three};

@@ -117,7 +117,9 @@ fn assert_height(level: u8, test: &Expr, message: &Option<Expr>) -> usize
 /// The tests and bodies of branches in front of an `else`.
 #[cycle(blocks)]
 fn branches_height(level: u8, branches: &[Branch]) -> usize
-    ensures { (n : ℕ) (rest : Part tree.Branches) → (m : ℕ) × (saturated (tall_branches level ((chain (map plain_branch branches.now) rest).make n)) ≡ max result (saturated (tall_branches level (rest.make m)))) }
+    ensures { (n : ℕ) (rest : Part tree.Branches)
+        → (m : ℕ) × (saturated (tall_branches level ((chain (map plain_branch branches.now) rest).make n))
+        ≡ max result (saturated (tall_branches level (rest.make m)))) }
 {
     let mut height: usize = 0;
     for branch in branches {

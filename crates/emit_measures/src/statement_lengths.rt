@@ -8,7 +8,10 @@ ghost use Rattle.bc_scheme.specs.py_meaning.Plain.{plain_expr, plain_stmt, block
 ghost use Rattle.bc_scheme.specs.Statements.{is_over};
 ghost use Rattle.emit_measures.specs.Limits.{saturated, plain_kind, plain_branch, plain_handler};
 ghost use Rattle.emit_measures.specs.Rows.{behind_wide, clause_wide};
-ghost use Rattle.emit_measures.specs.Lengths.{exit_length as exit_wide, expr_length as expr_wide, defaults_length as defaults_wide, stmt_length as stmt_wide, block_length as block_wide, branches_length as branches_wide, handlers_length as handlers_wide, text_length as text_wide};
+ghost use Rattle.emit_measures.specs.Lengths.{exit_length as exit_wide, expr_length as expr_wide};
+ghost use Rattle.emit_measures.specs.Lengths.{defaults_length as defaults_wide, stmt_length as stmt_wide};
+ghost use Rattle.emit_measures.specs.Lengths.{block_length as block_wide, branches_length as branches_wide};
+ghost use Rattle.emit_measures.specs.Lengths.{handlers_length as handlers_wide, text_length as text_wide};
 
 use crate::expr_lengths::{expr_length, name_length, row_length};
 use crate::imports::{imports_length, taken_length};
@@ -132,7 +135,9 @@ fn option_length(locals: &[Text], none: usize, value: &Option<Expr>) -> usize
 
 /// From level 1 on an assertion has no code.
 fn assert_length(level: u8, locals: &[Text], test: &Expr, message: &Option<Expr>) -> usize
-    ensures { (held iterator : Bool) → result ≡ saturated (stmt_wide locals.now level held iterator (on_option (Assert (plain_expr test.now)) (AssertWith (plain_expr test.now)) message.now)) }
+    ensures { (held iterator : Bool)
+        → result ≡ saturated (stmt_wide locals.now level held iterator
+        (on_option (Assert (plain_expr test.now)) (AssertWith (plain_expr test.now)) message.now)) }
 {
     if level > 0 {
         return 0;
@@ -173,7 +178,8 @@ fn branches_length(
     branches: &[Branch],
 ) -> usize
     ensures { (n : ℕ) (rest : Part tree.Branches) → ((m : ℕ) → is_over (rest.make m) ≡ bare) → (m : ℕ)
-        × (saturated (branches_wide locals.now level held iterator ((chain (map plain_branch branches.now) rest).make n)) ≡ saturated (result + branches_wide locals.now level held iterator (rest.make m))) }
+        × (saturated (branches_wide locals.now level held iterator ((chain (map plain_branch branches.now) rest).make n))
+        ≡ saturated (result + branches_wide locals.now level held iterator (rest.make m))) }
 {
     let mut left = branches.len();
     let mut length: usize = 0;

@@ -61,7 +61,9 @@ fn doubled_length(locals: &[Text], targets: &[Target]) -> usize
 
 /// An assignment.
 pub(crate) fn assign_length(locals: &[Text], targets: &[Target], value: &Expr) -> usize
-    ensures { (level : ℕ) (held iterator : Bool) → result ≡ saturated (stmt_wide locals.now level held iterator (from_targets Pass (λ us. Assign us (plain_expr value.now)) (map plain_target targets.now))) }
+    ensures { (level : ℕ) (held iterator : Bool)
+        → result ≡ saturated (stmt_wide locals.now level held iterator
+        (from_targets Pass (λ us. Assign us (plain_expr value.now)) (map plain_target targets.now))) }
 {
     let Some((first, rest)) = targets.split_first() else {
         return 0;
@@ -77,7 +79,8 @@ pub(crate) fn assign_length(locals: &[Text], targets: &[Target], value: &Expr) -
 
 /// An augmented assignment.
 pub(crate) fn augmented_length(locals: &[Text], target: &Target, value: &Expr) -> usize
-    ensures { (level : ℕ) (held iterator : Bool) (op : BinaryOp) → result ≡ saturated (stmt_wide locals.now level held iterator (augmented (plain_target target.now) op (plain_expr value.now))) }
+    ensures { (level : ℕ) (held iterator : Bool) (op : BinaryOp)
+        → result ≡ saturated (stmt_wide locals.now level held iterator (augmented (plain_target target.now) op (plain_expr value.now))) }
 {
     let added = expr_length(locals, value);
     match target {
@@ -123,7 +126,8 @@ fn delete_length(locals: &[Text], target: &Target) -> usize
 
 /// Deletions in a row.
 pub(crate) fn deletes_length(locals: &[Text], targets: &[Target]) -> usize
-    ensures { (level : ℕ) (held iterator : Bool) → result ≡ saturated (stmt_wide locals.now level held iterator (from_targets Pass Delete (map plain_target targets.now))) }
+    ensures { (level : ℕ) (held iterator : Bool)
+        → result ≡ saturated (stmt_wide locals.now level held iterator (from_targets Pass Delete (map plain_target targets.now))) }
 {
     let mut length: usize = 0;
     for target in targets {

@@ -1,7 +1,8 @@
 -- The first text of a source whose code passes a limit.
 use Rattle.std.specs.Prelude.{◌≡◌, ℕ, suc, List, [], ◌∷◌, ◌++◌, Some, None}
 use Rattle.mpy_base.specs.declared.source.SourceFault.{SourceFault}
-use Rattle.tr_source.specs.py_meaning.Tree.{Stmt, If, While, For, Try, Finally, TryFinally, Def, Block, End, Next, Branches, Else, Case, Handlers, NoHandler, Any, On, OnAs}
+use Rattle.tr_source.specs.py_meaning.Tree.{Stmt, If, While, For, Try, Finally, TryFinally, Def, Block, End, Next, Branches, Else}
+use Rattle.tr_source.specs.py_meaning.Tree.{Case, Handlers, NoHandler, Any, On, OnAs}
 use Rattle.tr_source.specs.py_meaning.Program.{Source, Text, source_texts}
 use Rattle.emit_measures.specs.Lengths.{text_length}
 use Rattle.emit_measures.specs.declared.faults.Measures.{Measures}

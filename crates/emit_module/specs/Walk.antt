@@ -8,7 +8,8 @@ use Rattle.mpy_writer.specs.mpy_tree.declared.module.ModuleCode.{ModuleCode}
 use Rattle.py_tree.specs.declared.stmt.Branch.{Branch}
 use Rattle.py_tree.specs.declared.stmt.Param.{Param}
 use Rattle.py_tree.specs.declared.stmt.Stmt as stmts
-use Rattle.tr_source.specs.py_meaning.Tree.{Name, count, Function, Stmt, If, While, For, Try, Finally, TryFinally, Def, Block, End, Next, Branches, Else, Case, Handlers, NoHandler, Any, On, OnAs}
+use Rattle.tr_source.specs.py_meaning.Tree.{Name, count, Function, Stmt, If, While, For, Try, Finally, TryFinally, Def, Block}
+use Rattle.tr_source.specs.py_meaning.Tree.{End, Next, Branches, Else, Case, Handlers, NoHandler, Any, On, OnAs}
 use Rattle.tr_source.specs.py_meaning.Plain.{Part, chain, defaults_of}
 use Rattle.tr_source.specs.py_meaning.Program.{Source, Text, or_none, module_name, function_text}
 use Rattle.emit_measures.specs.bc_scheme.Heights.{tall_block, held_in}
@@ -210,7 +211,8 @@ CodesText place own body text (Ok code) = IsTextCode place own body text code
 CodesText place own body text (Err refusal) = IsTextRefused (record { line = place.line; depth = place.depth }) text refusal
 
 -- what the next function of a source is made of its own statements
-pub record CodesFunction (slots : List (List Name)) (around : Children) (line : ℕ) (params : List Param) (body : List stmts.Stmt) (r : Result OwnCode (Refused SourceFault)) : Type 0 where
+pub record CodesFunction (slots : List (List Name)) (around : Children) (line : ℕ) (params : List Param) (body : List stmts.Stmt)
+    (r : Result OwnCode (Refused SourceFault)) : Type 0 where
   pub by : (source : Source) → source.level ≡ around.level → source.locals ≡ slots → (f : Function) → IsFunctionOf params body f
       → CodesText (place_of around line params) false body (text_at source around.next f) r
 

@@ -19,8 +19,10 @@ use emit_stmt::children_law;
 /// The finished code of a text's draft names all locals of the text, where these are its parameters and names that it
 /// binds itself, and its children are the codes of the text's own functions.
 pub fn joined_law()
-    ensures { (codes : List Code) (text : Text) (draft : Draft) (scope : Scope) (head : CodeHead) (lines : CodeLines) (children : List ℕ) → IsWritten text draft scope head lines
-        → HasOwnLocals text → TakesUndotted text.body → HasChildren codes text (machine_code (body_of head lines) children) → IsJoined codes text (machine_code (body_of head lines) children) }
+    ensures { (codes : List Code) (text : Text) (draft : Draft) (scope : Scope) (head : CodeHead) (lines : CodeLines) (children : List ℕ)
+        → IsWritten text draft scope head lines
+        → HasOwnLocals text → TakesUndotted text.body → HasChildren codes text (machine_code (body_of head lines) children)
+        → IsJoined codes text (machine_code (body_of head lines) children) }
 {
     children_law();
     tree_law();

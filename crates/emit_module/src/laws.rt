@@ -26,8 +26,10 @@ use emit_stmt::children_law;
 /// The finished code of a text's draft stands for the text among all codes of its module, where its children are the
 /// codes of the text's own functions.
 pub fn stands_law()
-    ensures { (codes : List Code) (text : Text) (draft : Draft) (scope : Scope) (head : CodeHead) (lines : CodeLines) (children : List ℕ) → IsWritten text draft scope head lines
-        → IsJoined codes text (machine_code (body_of head lines) children) → StandsCode codes scope.is_module text (machine_code (body_of head lines) children) }
+    ensures { (codes : List Code) (text : Text) (draft : Draft) (scope : Scope) (head : CodeHead) (lines : CodeLines) (children : List ℕ)
+        → IsWritten text draft scope head lines
+        → IsJoined codes text (machine_code (body_of head lines) children)
+        → StandsCode codes scope.is_module text (machine_code (body_of head lines) children) }
 {
     children_law();
     tree_law();
@@ -36,7 +38,8 @@ pub fn stands_law()
 /// A function that a text defines itself stands by its number among all functions of the text, and behind each function
 /// stand first those in it.
 pub fn functions_law()
-    ensures own { (n : ℕ) (text : Block) → own text ≡ starts n (sizes text) → (i : ℕ) (function : Made) → slice_get (made text) i ≡ Some function → IsDefined (functions text) n function }
+    ensures own { (n : ℕ) (text : Block) → own text ≡ starts n (sizes text) → (i : ℕ) (function : Made)
+        → slice_get (made text) i ≡ Some function → IsDefined (functions text) n function }
     ensures inner { (text : Block) → AllBegin (functions text) }
 {
     children_law();

@@ -20,7 +20,8 @@ use emit_stmt::children_law;
 /// the text's own functions are those of a formed tree.
 pub fn draft_length_law()
     ensures { (draft : Draft) (level : ℕ) (scope : Scope) (text : Part Block) (n first : ℕ) → EmitsText draft level scope text → draft.crowded ≡ false
-        → own (text.make n) ≡ starts first (sizes (text.make n)) → (labels : Labels) → wide_length (map (line_at labels) draft.lines) ≡ text_length scope.locals level (text.make n) }
+        → own (text.make n) ≡ starts first (sizes (text.make n)) → (labels : Labels)
+        → wide_length (map (line_at labels) draft.lines) ≡ text_length scope.locals level (text.make n) }
 {
     children_law();
     lengths_law();

@@ -68,7 +68,8 @@ fn emit_in(
     requires numbers { children.old.next + (plain_kind (out-Stmt stmt.now).kind).defs < 2 ^ 32 }
     requires shallow { children.old.depth < 32 }
     ensures numbers { OnOk result (children.new.next ≤ children.old.next + (plain_kind (out-Stmt stmt.now).kind).defs) }
-    ensures walked { WalksAll slots.now (λ n. planted_in (out-Stmt stmt.now).line ((plain_kind (out-Stmt stmt.now).kind).make n)) children.old children.new result }
+    ensures walked { WalksAll slots.now
+        (λ n. planted_in (out-Stmt stmt.now).line ((plain_kind (out-Stmt stmt.now).kind).make n)) children.old children.new result }
 {
     match &stmt.kind {
         StmtKind::If { branches, rest } => {
@@ -238,7 +239,8 @@ fn many_locals(
     body: &[Stmt],
 ) -> SourceFault
     requires { 4096 < length (or_none (slice_get slots.now around.now.next)) }
-    ensures code { (text : TextOf) (n : ℕ) → text.level ≡ around.now.level → text.locals ≡ or_none (slice_get slots.now around.now.next) → text.body ≡ (plain_block body.now).make n
+    ensures code { (text : TextOf) (n : ℕ) → text.level ≡ around.now.level → text.locals ≡ or_none (slice_get slots.now around.now.next)
+        → text.body ≡ (plain_block body.now).make n
         → (measures : Measures) → IsMeasured text measures → HasTextLength text measures → fault_of measures ≡ Some result.code }
     ensures line { result.line ≡ line }
     ensures word { result.word ≡ [] }

@@ -1,6 +1,7 @@
 -- The functions that a text defines itself, and a code's children for them.
 use Rattle.std.specs.Prelude.{◌≡◌, ℕ, suc, ◌+◌, List, [], ◌∷◌, ◌++◌, Some, slice_get}
-use Rattle.emit_expr.specs.py_meaning.Tree.{Name, count, Stmt, If, While, For, Try, Finally, TryFinally, Def, Block, End, Next, Branches, Else, Case, Handlers, NoHandler, Any, On, OnAs}
+use Rattle.emit_expr.specs.py_meaning.Tree.{Name, count, Stmt, If, While, For, Try, Finally, TryFinally, Def, Block, End, Next}
+use Rattle.emit_expr.specs.py_meaning.Tree.{Branches, Else, Case, Handlers, NoHandler, Any, On, OnAs}
 use Rattle.emit_expr.specs.bc_scheme.Context.{Context, IsChild}
 
 -- a function: its number in the source, its name, and how many of its parameters have defaults

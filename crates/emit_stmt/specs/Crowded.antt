@@ -1,6 +1,7 @@
 -- What has more members than its instruction can name, in statements with bodies.
 use Rattle.std.specs.Prelude.{ℕ, suc, Bool, false, ◌||◌}
-use Rattle.emit_expr.specs.py_meaning.Tree.{Stmt, If, While, For, Try, Finally, TryFinally, Block, End, Next, Branches, Else, Case, Handlers, NoHandler, Any, On, OnAs}
+use Rattle.emit_expr.specs.py_meaning.Tree.{Stmt, If, While, For, Try, Finally, TryFinally, Block, End, Next, Branches, Else}
+use Rattle.emit_expr.specs.py_meaning.Tree.{Case, Handlers, NoHandler, Any, On, OnAs}
 use Rattle.emit_expr.specs.Crowded.{crowded}
 use Rattle.emit_stmt.specs.SimpleCrowded.{crowded_target, crowded_simple, passes_entries}
 
@@ -15,11 +16,14 @@ abbrev mutual
   crowded_stmt level entries (While e body rest) = (crowded e || crowded_block level 0 body) || crowded_block level entries rest
   crowded_stmt level entries (For t e body rest) = ((crowded e || crowded_target t) || crowded_block level 0 body) || crowded_block level entries rest
   crowded_stmt level entries (Try body handlers rest) =
-      ((passes_entries (suc entries) || crowded_block level (suc entries) body) || crowded_handlers level (suc entries) handlers) || crowded_block level entries rest
-  crowded_stmt level entries (Finally body last) = (passes_entries (suc entries) || crowded_block level (suc entries) body) || crowded_block level (suc entries) last
+      ((passes_entries (suc entries) || crowded_block level (suc entries) body) || crowded_handlers level (suc entries) handlers)
+      || crowded_block level entries rest
+  crowded_stmt level entries (Finally body last) =
+      (passes_entries (suc entries) || crowded_block level (suc entries) body) || crowded_block level (suc entries) last
   crowded_stmt level entries (TryFinally body handlers rest last) =
       (passes_entries (suc entries)
-      || (((passes_entries (suc (suc entries)) || crowded_block level (suc (suc entries)) body) || crowded_handlers level (suc (suc entries)) handlers) || crowded_block level (suc entries) rest))
+      || (((passes_entries (suc (suc entries)) || crowded_block level (suc (suc entries)) body)
+      || crowded_handlers level (suc (suc entries)) handlers) || crowded_block level (suc entries) rest))
       || crowded_block level (suc entries) last
   crowded_stmt level entries stmt = crowded_simple level entries stmt
 

@@ -39,7 +39,8 @@ pub record EmitsCase (a b : Draft) (s : Scope) (around : Loop) (end child after 
   pub by :
       (n : ℕ) → Emits (length a.labels.items) a b s false (crowded test || crowded_block a.level around.entries (body.make n))
       (λ c labels p q. AreChildren c child (made (body.make n)) → (others : Branches) (r : ℕ) → is_over others ≡ over
-      → StandsI c (around_of labels around) (label_at labels end) q others r → StandsI c (around_of labels around) (label_at labels end) p (Case line test (body.make n) others) r)
+      → StandsI c (around_of labels around) (label_at labels end) q others r
+      → StandsI c (around_of labels around) (label_at labels end) p (Case line test (body.make n) others) r)
 
 -- clauses
 pub record EmitsH (a b : Draft) (s : Scope) (around : Loop) (end child after : ℕ) (part : Part Handlers) : Type 0 where
@@ -63,12 +64,14 @@ pub record EmitsMatched (a b : Draft) (s : Scope) (around : Loop) (line child af
       (λ c labels p q. AreChildren c child (made (body.make n)) → StandsMatched c (around_of labels around) line name p (body.make n) q)
 
 -- a clause with a test in front of others
-pub record EmitsClause (a b : Draft) (s : Scope) (around : Loop) (end child after line : ℕ) (test : trees.Expr) (name : Option Name) (body : Part Block) : Type 0 where
+pub record EmitsClause (a b : Draft) (s : Scope) (around : Loop) (end child after line : ℕ) (test : trees.Expr) (name : Option Name)
+    (body : Part Block) : Type 0 where
   pub few : after ≤ child + body.defs
   pub is : (n : ℕ) → after ≡ child + length (made (body.make n))
   pub by :
       (n : ℕ) → Emits (length a.labels.items) a b s false (crowded (plain_expr test) || crowded_matched a.level around.entries name (body.make n))
-      (λ c labels p q. AreChildren c child (made (body.make n)) → (others : Handlers) (r : ℕ) → StandsH c (around_of labels around) (label_at labels end) q others r
+      (λ c labels p q. AreChildren c child (made (body.make n)) → (others : Handlers) (r : ℕ)
+      → StandsH c (around_of labels around) (label_at labels end) q others r
       → StandsH c (around_of labels around) (label_at labels end) p (handler_of line (Some test) name (body.make n) others) r)
 
 -- the end of a `try`, whose body stands at a label that was made before

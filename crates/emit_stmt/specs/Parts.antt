@@ -7,7 +7,8 @@ use Rattle.py_tree.specs.declared.stmt.Target as aims
 use Rattle.py_tree.specs.declared.stmt.Stmt as stmts
 use Rattle.py_tree.specs.declared.stmt.StmtKind.TheFolds.{fold-Branch, fold-Handler}
 use Rattle.emit_expr.specs.py_meaning.Tree.{Stmt, If, While, For, Try, Block, Branches, Else, Handlers, NoHandler}
-use Rattle.emit_expr.specs.py_meaning.Plain.{Part, Clause, part, also, chain, block, try_of, plain_expr, plain_target, plain_stmt, kind_step, branch_step, handler_step, stmt_step}
+use Rattle.emit_expr.specs.py_meaning.Plain.{Part, Clause, part, also, chain, block, try_of, plain_expr, plain_target, plain_stmt}
+use Rattle.emit_expr.specs.py_meaning.Plain.{kind_step, branch_step, handler_step, stmt_step}
 
 -- the statements of a body
 abbrev pub plain_block : List stmts.Stmt → Part Block

@@ -1,6 +1,8 @@
 -- What has more members than its instruction can name, or no instruction at all.
 use Rattle.std.specs.Prelude.{ℕ, zero, suc, Bool, true, false, ◌||◌, length, nat_lt}
-use Rattle.emit_expr.specs.py_meaning.Tree.{Exprs, NoExpr, More, count, Target, ToName, ToAttr, ToIndex, ToEach, Targets, Only, Then, target_count, Stmt, Do, Assign, AugName, AugAttr, AugIndex, Delete, Break, Continue, Return, Raise, Assert, AssertWith, From, Def}
+use Rattle.emit_expr.specs.py_meaning.Tree.{Exprs, NoExpr, More, count, Target, ToName, ToAttr, ToIndex, ToEach, Targets, Only}
+use Rattle.emit_expr.specs.py_meaning.Tree.{Then, target_count, Stmt, Do, Assign, AugName, AugAttr, AugIndex, Delete, Break}
+use Rattle.emit_expr.specs.py_meaning.Tree.{Continue, Return, Raise, Assert, AssertWith, From, Def}
 use Rattle.emit_expr.specs.emit_draft.Draft.{passes_items}
 use Rattle.emit_expr.specs.Crowded.{crowded, crowded_all}
 

@@ -54,7 +54,8 @@ pub record EmitsF (a b : Draft) (s : Scope) (line : ℕ) (aliases : List Alias) 
 
 -- a statement that has no statements in it
 pub record EmitsS (a b : Draft) (s : Scope) (around : Loop) (line : ℕ) (stmt : Stmt) : Type 0 where
-  pub by : Emits (length a.labels.items) a b s false (crowded_simple a.level around.entries stmt) (λ c labels p q. StandsS c (around_of labels around) line p stmt q)
+  pub by : Emits (length a.labels.items) a b s false (crowded_simple a.level around.entries stmt)
+      (λ c labels p q. StandsS c (around_of labels around) line p stmt q)
 
 -- what stands in front of a function's store, where the child of this index among the code's own is its code
 pub record EmitsMaking (a b : Draft) (s : Scope) (line child : ℕ) (defaults : Exprs) : Type 0 where

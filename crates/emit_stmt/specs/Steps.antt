@@ -49,7 +49,8 @@ pub data IsBehind (c : Context) (p : ℕ) (item : Item) : (q : ℕ) → Type 0 w
 
 -- the test of a clause, which goes on elsewhere where it doesn't match
 pub data IsMatch (c : Context) (line : ℕ) (p : ℕ) (test : Expr) (other : ℕ) : (q : ℕ) → Type 0 where
-  match : {m : ℕ} → Has c line p (plain ops.DupTop) → StandsE c line (suc p) test m → Has c line m matching → Has c line (suc m) (Jumps ops.PopJumpIfFalse other)
+  match : {m : ℕ} → Has c line p (plain ops.DupTop) → StandsE c line (suc p) test m → Has c line m matching
+      → Has c line (suc m) (Jumps ops.PopJumpIfFalse other)
       → IsMatch c line p test other (suc (suc m))
 
 -- the end of the name of a clause
@@ -60,7 +61,8 @@ pub data IsGone (c : Context) (p : ℕ) (name : Name) : (q : ℕ) → Type 0 whe
 -- the body of a clause that matches
 pub data StandsMatched (c : Context) (a : Around) (line : ℕ) : Option Name → (p : ℕ) → Block → (q : ℕ) → Type 0 where
   unnamed : {p q : ℕ} {b : Block} → Has c line p (plain ops.PopTop) → StandsB c a (suc p) b q → StandsMatched c a line None p b q
-  named : {p j q : ℕ} {x : Name} {b : Block} → Has c line p (stores c x) → Has c line (suc p) (Jumps ops.SetupFinally (suc j)) → StandsB c (deeper a) (suc (suc p)) b j
+  named : {p j q : ℕ} {x : Name} {b : Block} → Has c line p (stores c x) → Has c line (suc p) (Jumps ops.SetupFinally (suc j))
+      → StandsB c (deeper a) (suc (suc p)) b j
       → Behind c j (plain ops.LoadConstNone) → IsGone c (suc j) x q → StandsMatched c a line (Some x) p b q
 
 -- the end of a `try`

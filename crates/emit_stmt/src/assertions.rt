@@ -70,7 +70,9 @@ pub(crate) fn emit_assertion(
     test: &Expr,
     message: &Option<Expr>,
 ) -> Result<(), NoMemory>
-    ensures { OnOk result ((around : Around) → EmitsS draft.old draft.new scope.now around line (on_option (Assert (plain_expr test.now)) (AssertWith (plain_expr test.now)) message.now)) }
+    ensures { OnOk result ((around : Around)
+        → EmitsS draft.old draft.new scope.now around line
+        (on_option (Assert (plain_expr test.now)) (AssertWith (plain_expr test.now)) message.now)) }
 {
     match message {
         None => emit_assert(alloc, draft, scope, line, test),

@@ -28,7 +28,9 @@ pub(crate) fn emit_assignment(
     targets: &[Target],
     value: &Expr,
 ) -> Result<(), NoMemory>
-    ensures { OnOk result ((around : Around) → EmitsS draft.old draft.new scope.now around line (from_targets Pass (λ ts. Assign ts (plain_expr value.now)) (map plain_target targets.now))) }
+    ensures { OnOk result ((around : Around)
+        → EmitsS draft.old draft.new scope.now around line
+        (from_targets Pass (λ ts. Assign ts (plain_expr value.now)) (map plain_target targets.now))) }
 {
     let Some((last, front)) = targets.split_last() else {
         return Ok(());
@@ -79,7 +81,8 @@ fn emit_augmented_attr(
     op: BinaryOp,
     value: &Expr,
 ) -> Result<(), NoMemory>
-    ensures { OnOk result ((around : Around) → EmitsS draft.old draft.new scope.now around line (AugAttr (plain_expr object.now) name.now op (plain_expr value.now))) }
+    ensures { OnOk result ((around : Around)
+        → EmitsS draft.old draft.new scope.now around line (AugAttr (plain_expr object.now) name.now op (plain_expr value.now))) }
 {
     emit_expr(alloc, draft, scope, line, object)?;
     put_plain(draft, line, Op::DupTop)?;
@@ -102,7 +105,9 @@ fn emit_augmented_index(
     op: BinaryOp,
     value: &Expr,
 ) -> Result<(), NoMemory>
-    ensures { OnOk result ((around : Around) → EmitsS draft.old draft.new scope.now around line (AugIndex (plain_expr object.now) (plain_expr index.now) op (plain_expr value.now))) }
+    ensures { OnOk result ((around : Around)
+        → EmitsS draft.old draft.new scope.now around line
+        (AugIndex (plain_expr object.now) (plain_expr index.now) op (plain_expr value.now))) }
 {
     emit_expr(alloc, draft, scope, line, object)?;
     emit_expr(alloc, draft, scope, line, index)?;
@@ -125,7 +130,8 @@ pub(crate) fn emit_augmented(
     op: BinaryOp,
     value: &Expr,
 ) -> Result<(), NoMemory>
-    ensures { OnOk result ((around : Around) → EmitsS draft.old draft.new scope.now around line (augmented (plain_target target.now) op (plain_expr value.now))) }
+    ensures { OnOk result ((around : Around)
+        → EmitsS draft.old draft.new scope.now around line (augmented (plain_target target.now) op (plain_expr value.now))) }
 {
     match target {
         Target::Name(name) => {

@@ -53,7 +53,8 @@ fn emit_stmt(
     stmt: &Stmt,
 ) -> Result<u32, NoMemory>
     requires { child + (plain_kind (out-Stmt stmt.now).kind).defs < 2 ^ 32 }
-    ensures { IfOk result (λ after. EmitsP draft.old draft.new scope.now around.now (out-Stmt stmt.now).line child after (plain_kind (out-Stmt stmt.now).kind)) }
+    ensures { IfOk result (λ after. EmitsP draft.old draft.new scope.now around.now (out-Stmt stmt.now).line child after
+        (plain_kind (out-Stmt stmt.now).kind)) }
 {
     let line = stmt.line;
     match &stmt.kind {
@@ -181,7 +182,8 @@ fn emit_case(
     branch: &Branch,
 ) -> Result<u32, NoMemory>
     requires { child + (plain_block (out-Branch branch.now).body).defs < 2 ^ 32 }
-    ensures { IfOk result (λ after. EmitsCase draft.old draft.new scope.now around.now end child after over (out-Branch branch.now).line (plain_expr (out-Branch branch.now).test) (plain_block (out-Branch branch.now).body)) }
+    ensures { IfOk result (λ after. EmitsCase draft.old draft.new scope.now around.now end child after over (out-Branch branch.now).line
+        (plain_expr (out-Branch branch.now).test) (plain_block (out-Branch branch.now).body)) }
 {
     let other = draft.new_label()?;
     emit_expr(alloc, draft, scope, branch.line, &branch.test)?;

@@ -9,7 +9,9 @@ use Rattle.mpy_reader.specs.Reading.{FirstFault}
 use Rattle.command_files.specs.mpy_compile.Checked.{IsTranslation, DiffersFirst}
 use Rattle.command_files.specs.mpy_endings.declared.ending.Difference.{Difference}
 use Rattle.command_files.specs.mpy_endings.declared.ending.Ending.{Ending}
-use Rattle.command_files.specs.mpy_endings.declared.ending.Ending.TheVariants.{Done, Unaccepted, Unread, Unverified, Unmerged, Unopened, Unfrozen, Unboarded, Different, Stopped, ReadFault, WriteFault, Unwritten, NoMemory, Absent}
+use Rattle.command_files.specs.mpy_endings.declared.ending.Ending.TheVariants.{Done, Unaccepted, Unread, Unverified, Unmerged}
+use Rattle.command_files.specs.mpy_endings.declared.ending.Ending.TheVariants.{Unopened, Unfrozen, Unboarded, Different, Stopped}
+use Rattle.command_files.specs.mpy_endings.declared.ending.Ending.TheVariants.{ReadFault, WriteFault, Unwritten, NoMemory, Absent}
 use Rattle.command_files.specs.Folder.{MayHold}
 use Rattle.command_files.specs.Source.{HoldsFaulty}
 use Rattle.file_commands.specs.Check.{count_of}
@@ -55,7 +57,8 @@ module _ (level : ℕ) (files : Option FileOf) (source file : List ℕ) where
     abbrev pub ChecksAs : (place : ℕ) → Ending → Type 0
     ChecksAs place Done = (count : ℕ) × HoldsTranslation count × Appends before behind (translation_line count)
     ChecksAs place (Unaccepted fault) = (place ≡ 1) × HoldsUnaccepted fault × Keeps before behind
-    ChecksAs place (Unread fault) = (place ≡ 2) × IsThere files source × ((bytes : List ℕ) × MayHold files file (Some bytes) × FirstFault bytes fault) × Keeps before behind
+    ChecksAs place (Unread fault) = (place ≡ 2) × IsThere files source
+        × ((bytes : List ℕ) × MayHold files file (Some bytes) × FirstFault bytes fault) × Keeps before behind
     ChecksAs place (Unverified fault) = ⊥
     ChecksAs place (Unmerged fault) = ⊥
     ChecksAs place (Unopened fault) = ⊥

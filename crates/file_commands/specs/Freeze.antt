@@ -4,7 +4,9 @@ use Rattle.mpy_io.specs.Files.{FileOf, Becomes, BecomesFront}
 use Rattle.manifest_files.specs.image_grammar.bc_library.Shelf.{Shelf}
 use Rattle.frozen_files.specs.Frozen.{HoldsFrozen, RefusesFrozen}
 use Rattle.command_files.specs.mpy_endings.declared.ending.Ending.{Ending}
-use Rattle.command_files.specs.mpy_endings.declared.ending.Ending.TheVariants.{Done, Unaccepted, Unread, Unverified, Unmerged, Unopened, Unfrozen, Unboarded, Different, Stopped, ReadFault, WriteFault, Unwritten, NoMemory, Absent}
+use Rattle.command_files.specs.mpy_endings.declared.ending.Ending.TheVariants.{Done, Unaccepted, Unread, Unverified, Unmerged}
+use Rattle.command_files.specs.mpy_endings.declared.ending.Ending.TheVariants.{Unopened, Unfrozen, Unboarded, Different, Stopped}
+use Rattle.command_files.specs.mpy_endings.declared.ending.Ending.TheVariants.{ReadFault, WriteFault, Unwritten, NoMemory, Absent}
 
 -- in this version, over the library below
 module _ (version : ℕ) (below : Shelf) (manifest written : List ℕ) (old new : Option FileOf) where

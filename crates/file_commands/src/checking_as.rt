@@ -58,7 +58,8 @@ fn codes_compared(alloc: Global, level: u8, text: &[u8], have: &RawModule) -> Re
     requires { level ≤ 3 }
     ensures same { IfOk result (λ count. (files : Option FileOf) (source file bytes : List ℕ) → MayHold files source (Some text.now)
         → MayHold files file (Some bytes) → IsFile bytes have.now → HoldsTranslation level files source file count) }
-    ensures refused { IfErr result (λ ended. (files : Option FileOf) (source file bytes : List ℕ) (told : Option (List ℕ)) → MayHold files source (Some text.now)
+    ensures refused { IfErr result (λ ended. (files : Option FileOf) (source file bytes : List ℕ) (told : Option (List ℕ))
+        → MayHold files source (Some text.now)
         → MayHold files file (Some bytes) → IsFile bytes have.now → ChecksAs level files source file told told ended.place ended.ending) }
     ensures no_fault { IfErr result (λ ended. is_folder_fault ended.ending ≡ false) }
     ensures quiet { IfErr result (λ ended. is_out_fault ended.ending ≡ false) }

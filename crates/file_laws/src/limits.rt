@@ -1,7 +1,10 @@
 //! The limits as numbers.
 
 ghost use Rattle.std.specs.Prelude.{◌≡◌};
-ghost use Rattle.mpy_merge.specs.mpy_base.declared.limits.TheConstants.{MAX_ARGUMENTS, MAX_CALLS, MAX_CODE_BYTES, MAX_DEPTH, MAX_FILE_BYTES, MAX_HANDLERS, MAX_IMAGE_BYTES, MAX_ITEMS, MAX_MODULES, MAX_READ_BYTES, MAX_SOURCE_BYTES, MAX_STATE, MAX_TABLE, MAX_TASKS, MAX_WALK_DEPTH, MAX_WIDE_LENGTH};
+ghost use Rattle.mpy_merge.specs.mpy_base.declared.limits.TheConstants.{MAX_ARGUMENTS, MAX_CALLS, MAX_CODE_BYTES, MAX_DEPTH};
+ghost use Rattle.mpy_merge.specs.mpy_base.declared.limits.TheConstants.{MAX_FILE_BYTES, MAX_HANDLERS, MAX_IMAGE_BYTES, MAX_ITEMS};
+ghost use Rattle.mpy_merge.specs.mpy_base.declared.limits.TheConstants.{MAX_MODULES, MAX_READ_BYTES, MAX_SOURCE_BYTES, MAX_STATE};
+ghost use Rattle.mpy_merge.specs.mpy_base.declared.limits.TheConstants.{MAX_TABLE, MAX_TASKS, MAX_WALK_DEPTH, MAX_WIDE_LENGTH};
 ghost use Rattle.manifest_files.specs.declared.collecting.TheConstants.{MAX_OPEN};
 ghost use Rattle.library_files.specs.declared.limit.TheConstants.{MAX_LIBRARY_BYTES};
 ghost use Rattle.mpy_merge.specs.declared.fault.TheConstants.{MAX_PARTS};

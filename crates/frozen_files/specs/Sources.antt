@@ -8,8 +8,9 @@ use Rattle.source_files.specs.mpy_compile.Compiled.{CompilesTo, IsFault}
 use Rattle.source_files.specs.library_files.Comes.{IsVerifiedFile}
 use Rattle.manifest_lines.specs.declared.entry.Entry.{Entry}
 use Rattle.manifest_files.specs.declared.fault.ManifestFault.{ManifestFault}
-use Rattle.manifest_files.specs.Answers.{is_read_fault}
+use Rattle.manifest_files.specs.Answers.{OfRead, is_read_fault}
 use Rattle.manifest_files.specs.Entries as manifests
+use Rattle.manifest_files.specs.Quiet.{IsOfTree}
 use Rattle.image_freeze.specs.declared.named.Named.{Named}
 use Rattle.manifest_files.specs.declared.frozen_fault.SourcesFault.{SourcesFault}
 use Rattle.manifest_files.specs.declared.frozen_fault.SourcesFault.TheVariants.{Manifest, Absent, Unaccepted, Unread}
@@ -26,11 +27,12 @@ MayHold files name content = IfSome files (λ file. file name ≡ content)
 abbrev pub MayList : Option FileOf → (manifest : List ℕ) → List Entry → Type 0
 MayList files manifest entries = IfSome files (λ file. manifests.AreEntries file manifest entries)
 
--- the manifest of this name has such a fault; of a read that failed nothing is said
+-- the manifest of this name has such a fault; a read that failed was of this manifest, or of one that it includes, straight or over others
 pub record RefusesManifest (files : Option FileOf) (manifest : List ℕ) (fault : SourcesFault) : Type 0 where
   pub cause : ManifestFault
   pub fault_is : fault ≡ of_manifest manifest cause
   pub first : is_read_fault cause ≡ false → IfSome files (λ file. manifests.IsFault file manifest cause)
+  pub reads : OfRead (λ other. IfSome files (λ file. IsOfTree file manifest other)) cause
 
 -- the source of an entry
 -- ======================

@@ -1,6 +1,7 @@
 //! The texts and the modules of a library.
 
-ghost use Rattle.std.specs.Prelude.{◌≡◌, ◌↔◌, ◌<◌, ◌≤◌, [], length, Contains, Some, Err, false, IsTrue, IfOk, IfSome, option_copied, option_and_then, slice_get};
+ghost use Rattle.std.specs.Prelude.{◌≡◌, ◌↔◌, ◌<◌, ◌≤◌, [], length, Contains, Some, Err, false, IsTrue, IfOk, IfSome};
+ghost use Rattle.std.specs.Prelude.{option_copied, option_and_then, slice_get};
 ghost use Rattle.mpy_base.specs.declared.limits.TheConstants.{MAX_TABLE};
 ghost use Rattle.mpy_base.specs.declared.refused.Refused.TheVariants as refused;
 ghost use Rattle.qstr_pool.specs.Full.{pool_full};

@@ -10,7 +10,9 @@ ghost use Rattle.library_files.specs.Asked.{asked_for};
 ghost use Rattle.library_files.specs.Comes.{NameComesTo};
 ghost use Rattle.library_files.specs.Ends.{BeginsWith, EndsIn, FailsAmong, FailsInBase, HoldsModules, is_failed};
 ghost use Rattle.library_files.specs.Loads.{Loads, LoadsFrom, LoadsWith};
-ghost use Rattle.library_files.specs.Steps.{AddsImports, AddsModules, AreAsked, AreKnownAbsent, AreModules, AreShort, Asks, AsksAll, AsksFound, BeginsBy, IsNothing, LimitComesTo, LoadsLeft, Remembers, Step, Takes};
+ghost use Rattle.library_files.specs.Steps.{AddsImports, AddsModules, AreAsked, AreKnownAbsent, AreModules, AreShort, Asks};
+ghost use Rattle.library_files.specs.Steps.{AsksAll, AsksFound, BeginsBy, IsNothing, LimitComesTo, LoadsLeft, Remembers, Step};
+ghost use Rattle.library_files.specs.Steps.{Takes};
 
 use crate::asked::asked_names;
 use crate::entry::Entry;
@@ -165,9 +167,11 @@ fn read_asked<R: Reader, F: Folder>(
     requires fresh { member_of begun.old.library name.now ≡ None }
     requires absent { AreKnownAbsent (NameComesTo (R.ending reader.now) (R.comes reader.now) base.now) (F.files folder.old) begun.old.absent.texts }
     ensures loads { IfSome (F.files folder.old)
-        (λ files. Asks (NameComesTo (R.ending reader.now) (R.comes reader.now) base.now files) begun.old begun.new name.now found.old.items found.new.items result) }
+        (λ files. Asks (NameComesTo (R.ending reader.now) (R.comes reader.now) base.now files) begun.old begun.new name.now found.old.items
+        found.new.items result) }
     ensures step { OnOk result (Step begun.old.library begun.new.library found.old.items found.new.items) }
-    ensures absent { OnOk result (AreKnownAbsent (NameComesTo (R.ending reader.now) (R.comes reader.now) base.now) (F.files folder.new) begun.new.absent.texts) }
+    ensures absent { OnOk result
+        (AreKnownAbsent (NameComesTo (R.ending reader.now) (R.comes reader.now) base.now) (F.files folder.new) begun.new.absent.texts) }
     ensures same { F.files folder.new ≡ F.files folder.old }
     ensures at { FailsAmong (R.ending reader.now) (R.comes reader.now) base.now result }
     ensures cause { Counts (F.count folder.old) (F.count folder.new) (is_failed result) }
@@ -194,9 +198,11 @@ fn ask_unknown<R: Reader, F: Folder>(
     requires fresh { member_of begun.old.library name.now ≡ None }
     requires absent { AreKnownAbsent (NameComesTo (R.ending reader.now) (R.comes reader.now) base.now) (F.files folder.old) begun.old.absent.texts }
     ensures loads { IfSome (F.files folder.old)
-        (λ files. Asks (NameComesTo (R.ending reader.now) (R.comes reader.now) base.now files) begun.old begun.new name.now found.old.items found.new.items result) }
+        (λ files. Asks (NameComesTo (R.ending reader.now) (R.comes reader.now) base.now files) begun.old begun.new name.now found.old.items
+        found.new.items result) }
     ensures step { OnOk result (Step begun.old.library begun.new.library found.old.items found.new.items) }
-    ensures absent { OnOk result (AreKnownAbsent (NameComesTo (R.ending reader.now) (R.comes reader.now) base.now) (F.files folder.new) begun.new.absent.texts) }
+    ensures absent { OnOk result
+        (AreKnownAbsent (NameComesTo (R.ending reader.now) (R.comes reader.now) base.now) (F.files folder.new) begun.new.absent.texts) }
     ensures same { F.files folder.new ≡ F.files folder.old }
     ensures at { FailsAmong (R.ending reader.now) (R.comes reader.now) base.now result }
     ensures cause { Counts (F.count folder.old) (F.count folder.new) (is_failed result) }
@@ -222,9 +228,11 @@ fn ask<R: Reader, F: Folder>(
     requires short { length name.now < 2 ^ 31 }
     requires absent { AreKnownAbsent (NameComesTo (R.ending reader.now) (R.comes reader.now) base.now) (F.files folder.old) begun.old.absent.texts }
     ensures loads { IfSome (F.files folder.old)
-        (λ files. Asks (NameComesTo (R.ending reader.now) (R.comes reader.now) base.now files) begun.old begun.new name.now found.old.items found.new.items result) }
+        (λ files. Asks (NameComesTo (R.ending reader.now) (R.comes reader.now) base.now files) begun.old begun.new name.now found.old.items
+        found.new.items result) }
     ensures step { OnOk result (Step begun.old.library begun.new.library found.old.items found.new.items) }
-    ensures absent { OnOk result (AreKnownAbsent (NameComesTo (R.ending reader.now) (R.comes reader.now) base.now) (F.files folder.new) begun.new.absent.texts) }
+    ensures absent { OnOk result
+        (AreKnownAbsent (NameComesTo (R.ending reader.now) (R.comes reader.now) base.now) (F.files folder.new) begun.new.absent.texts) }
     ensures same { F.files folder.new ≡ F.files folder.old }
     ensures at { FailsAmong (R.ending reader.now) (R.comes reader.now) base.now result }
     ensures cause { Counts (F.count folder.old) (F.count folder.new) (is_failed result) }
@@ -249,9 +257,11 @@ fn ask_all<R: Reader, F: Folder>(
     requires names_are { AreAsked names.now }
     requires absent { AreKnownAbsent (NameComesTo (R.ending reader.now) (R.comes reader.now) base.now) (F.files folder.old) begun.old.absent.texts }
     ensures loads { IfSome (F.files folder.old)
-        (λ files. AsksAll (NameComesTo (R.ending reader.now) (R.comes reader.now) base.now files) begun.old begun.new names.now found.old.items found.new.items result) }
+        (λ files. AsksAll (NameComesTo (R.ending reader.now) (R.comes reader.now) base.now files) begun.old begun.new names.now
+        found.old.items found.new.items result) }
     ensures step { OnOk result (Step begun.old.library begun.new.library found.old.items found.new.items) }
-    ensures absent { OnOk result (AreKnownAbsent (NameComesTo (R.ending reader.now) (R.comes reader.now) base.now) (F.files folder.new) begun.new.absent.texts) }
+    ensures absent { OnOk result
+        (AreKnownAbsent (NameComesTo (R.ending reader.now) (R.comes reader.now) base.now) (F.files folder.new) begun.new.absent.texts) }
     ensures same { F.files folder.new ≡ F.files folder.old }
     ensures at { FailsAmong (R.ending reader.now) (R.comes reader.now) base.now result }
     ensures cause { Counts (F.count folder.old) (F.count folder.new) (is_failed result) }
@@ -277,9 +287,11 @@ fn ask_found<R: Reader, F: Folder>(
     requires base_is { IsUtf8 base.now }
     requires names_are { AreAsked names.now }
     requires absent { AreKnownAbsent (NameComesTo (R.ending reader.now) (R.comes reader.now) base.now) (F.files folder.old) begun.old.absent.texts }
-    ensures loads { IfSome (F.files folder.old) (λ files. AsksFound (NameComesTo (R.ending reader.now) (R.comes reader.now) base.now files) begun.old begun.new names.now result) }
+    ensures loads { IfSome (F.files folder.old)
+        (λ files. AsksFound (NameComesTo (R.ending reader.now) (R.comes reader.now) base.now files) begun.old begun.new names.now result) }
     ensures step { IfOk result (λ found. Step begun.old.library begun.new.library [] found.items) }
-    ensures absent { OnOk result (AreKnownAbsent (NameComesTo (R.ending reader.now) (R.comes reader.now) base.now) (F.files folder.new) begun.new.absent.texts) }
+    ensures absent { OnOk result
+        (AreKnownAbsent (NameComesTo (R.ending reader.now) (R.comes reader.now) base.now) (F.files folder.new) begun.new.absent.texts) }
     ensures same { F.files folder.new ≡ F.files folder.old }
     ensures at { FailsAmong (R.ending reader.now) (R.comes reader.now) base.now result }
     ensures cause { Counts (F.count folder.old) (F.count folder.new) (is_failed result) }
@@ -306,7 +318,8 @@ fn import<R: Reader, F: Folder>(
     ensures loads { IfSome (F.files folder.old)
         (λ files. AsksFound (NameComesTo (R.ending reader.now) (R.comes reader.now) base.now files) begun.old begun.new (asked_for name.now) result) }
     ensures step { IfOk result (λ found. Step begun.old.library begun.new.library [] found.items) }
-    ensures absent { OnOk result (AreKnownAbsent (NameComesTo (R.ending reader.now) (R.comes reader.now) base.now) (F.files folder.new) begun.new.absent.texts) }
+    ensures absent { OnOk result
+        (AreKnownAbsent (NameComesTo (R.ending reader.now) (R.comes reader.now) base.now) (F.files folder.new) begun.new.absent.texts) }
     ensures same { F.files folder.new ≡ F.files folder.old }
     ensures at { FailsAmong (R.ending reader.now) (R.comes reader.now) base.now result }
     ensures cause { Counts (F.count folder.old) (F.count folder.new) (is_failed result) }
@@ -338,9 +351,12 @@ fn load_left<R: Reader, F: Folder>(
     requires base_is { IsUtf8 base.now }
     requires short { AreShort left.items }
     requires absent { AreKnownAbsent (NameComesTo (R.ending reader.now) (R.comes reader.now) base.now) (F.files folder.old) begun.old.absent.texts }
-    ensures loads { IfSome (F.files folder.old) (λ files. LoadsLeft (NameComesTo (R.ending reader.now) (R.comes reader.now) base.now files) begun.old begun.new (reverse left.items) result) }
+    ensures loads { IfSome (F.files folder.old)
+        (λ files. LoadsLeft (NameComesTo (R.ending reader.now) (R.comes reader.now) base.now files) begun.old begun.new
+        (reverse left.items) result) }
     ensures adds { OnOk result (AddsModules begun.old.library begun.new.library) }
-    ensures absent { OnOk result (AreKnownAbsent (NameComesTo (R.ending reader.now) (R.comes reader.now) base.now) (F.files folder.new) begun.new.absent.texts) }
+    ensures absent { OnOk result
+        (AreKnownAbsent (NameComesTo (R.ending reader.now) (R.comes reader.now) base.now) (F.files folder.new) begun.new.absent.texts) }
     ensures same { F.files folder.new ≡ F.files folder.old }
     ensures at { FailsAmong (R.ending reader.now) (R.comes reader.now) base.now result }
     ensures cause { Counts (F.count folder.old) (F.count folder.new) (is_failed result) }
@@ -424,7 +440,8 @@ fn load_all<R: Reader, F: Folder>(
     requires held { AreModules begun.library.modules }
     requires absent { AreKnownAbsent (NameComesTo (R.ending reader.now) (R.comes reader.now) base.now) (F.files folder.old) begun.absent.texts }
     ensures loaded { IfSome (F.files folder.old)
-        (λ files. EndsIn (Loads (NameComesTo (R.ending reader.now) (R.comes reader.now) base.now files) begun.library begun.size [] (reverse left.items) []) result) }
+        (λ files. EndsIn (Loads (NameComesTo (R.ending reader.now) (R.comes reader.now) base.now files) begun.library begun.size []
+        (reverse left.items) []) result) }
     ensures adds { IfOk result (AddsModules begun.library) }
     ensures holds { IfOk result HoldsModules }
     ensures same { F.files folder.new ≡ F.files folder.old }

@@ -1,5 +1,5 @@
 -- What a machine that has run says of the run of its library.
-use Rattle.std.proofs.Common.{◌≡◌, ◌⊎◌, inl, inr, ℕ, ◌+◌, ◌≤◌, ◌<◌, List, [], ◌∷◌, ◌++◌, Bool, true, false, Option, Some, None, refl, sym, ap, subst, ◌∙◌, append_assoc, append-nil, add-one, zero, suc, arith}
+use Rattle.std.proofs.Common.{◌≡◌, ◌⊎◌, inl, inr, ℕ, ◌+◌, ◌-◌, ◌≤◌, ◌<◌, List, [], ◌∷◌, ◌++◌, Bool, true, false, Option, Some, None, refl, sym, ap, subst, ◌∙◌, append_assoc, append-nil, add-one, zero, suc, arith}
 use Rattle.std.proofs.lemmas.List.{append_cancel_left}
 use Rattle.std.specs.Io.KnownBytes.{Appends, Keeps}
 use Rattle.std.proofs.KnownBytes.{Appends-kept, Appends-trans}
@@ -17,10 +17,13 @@ use Rattle.vm_machine.specs.vm_frames.py_effects.Growth.{Starts}
 use Rattle.bc_library.specs.Constants.{items_at, text_at}
 use Rattle.bc_library.specs.Shelf.{Named, Shelf}
 use Rattle.vm_machine.specs.vm_frames.bc_machine.Library.{Name, Library}
-use Rattle.vm_machine.specs.vm_frames.bc_machine.State.{State}
+use Rattle.vm_machine.specs.vm_frames.bc_machine.State.{State, Running, Halted, Stuck}
 use Rattle.vm_machine.specs.vm_frames.bc_machine.Step.{step}
-use Rattle.vm_machine.specs.vm_frames.bc_machine.Machine.{start, steps, run, run_of}
+use Rattle.vm_machine.specs.vm_frames.bc_machine.Machine.{start, steps, steps as steps_of, run_of}
 use Rattle.vm_machine.specs.vm_frames.bc_machine.Behind.{behind, state_behind, run_behind}
+use Rattle.vm_machine.specs.vm_frames.bc_machine.Growth.{world_of as state_world}
+use Rattle.bc_machine.proofs.Laws.{ahead, steps_print}
+use Rattle.bc_machine.proofs.Steps.{run_is_behind, start_behind, steps_behind}
 use Rattle.vm_machine.specs.vm_frames.Calls.{Call}
 use Rattle.vm_machine.specs.state_calls.frame_moves.Shown.{Tables, running_of}
 use Rattle.vm_machine.specs.prim_walks.Plain.{plain_heap}
@@ -36,7 +39,7 @@ use Rattle.std.specs.Prelude.{◌≢◌, MatchOption, slice_get}
 use Rattle.library_runs.specs.declared.ending.RunEnd.{RunEnd}
 use Rattle.library_runs.specs.declared.ending.RunEnd.TheVariants as ends
 use Rattle.library_runs.specs.Reports.{answer_of, said_by}
-use Rattle.library_runs.specs.Runs.{Sight, IsSaid, IsOver, Ran, CutShort, Strayed, EndsSo, StandsAt, RunsAs, RunsSo, Says, end_of, said_of, begins_in}
+use Rattle.library_runs.specs.Runs.{Sight, IsSaid, IsOver, RanFrom, CutFrom, EndsFrom, Strayed, StrayedOn, StandsAt, StandsOn, GoesOn, RunsAs, RunsSo, Says, end_of, said_of, begins_in, goes_in, run_from, standing, with_ports}
 
 -- ends
 -- ====
@@ -105,42 +108,49 @@ steps_last : (library : Library) (n : ℕ) (s : State) → steps library (suc n)
 steps_last library zero s = refl
 steps_last library (suc n) s = steps_last library n (step library s)
 
--- what the laws of outputs say
-abbrev StartsBehind : Type 0
-StartsBehind = (library : Library) (name : Name) (w : PlainWorld) (front : List ℕ) → start library name (behind front w) ≡ state_behind front (start library name w)
+run_world : (s : State) → (run_of s).world ≡ state_world s
+run_world (Running paid frame frames w) = refl
+run_world (Halted end w) = refl
+run_world (Stuck w) = refl
 
-abbrev RunsBehind : Type 0
-RunsBehind = (library : Library) (name : Name) (cells bytes : ℕ) (ports : List PortState) (n : ℕ) (front : List ℕ)
-    → run_of (steps library n (start library name (behind front (new_world cells bytes ports)))) ≡ run_behind front (run library name cells bytes ports n)
-
-abbrev PutStands : Type 0
-PutStands = (library : Library) (name : Name) (cells bytes : ℕ) (ports : List PortState) (n most : ℕ) (front text : List ℕ) → n < most
-    → (run_of (step library (steps library n (start library name (behind front (new_world cells bytes ports)))))).world.output
-    ≡ (run_of (steps library n (start library name (behind front (new_world cells bytes ports))))).world.output ++ text
-    → Starts ((run library name cells bytes ports n).world.output ++ text) (run library name cells bytes ports most).world.output
+-- the output of a longer run begins with what a step adds to a shorter one
+begins_longer : (library : Library) (from : State) (n most : ℕ) (text : List ℕ) → n < most
+    → (run_from library from (suc n)).world.output ≡ (run_from library from n).world.output ++ text → Starts ((run_from library from n).world.output ++ text) (run_from library from most).world.output
+begins_longer library from n most text less puts =
+    let behind_step = steps library (suc n) from in
+    let last = steps library (most - suc n) behind_step in
+    let later = (steps_print library (most - suc n) behind_step).more in
+    let on : steps library most from ≡ last = ahead library (suc n) most from (omega (arith, less)) in
+    let first : (run_from library from (suc n)).world.output ≡ (state_world behind_step).output = ap (λ (w : PlainWorld). w.output) (run_world behind_step) in
+    let whole : (run_from library from most).world.output ≡ (state_world last).output =
+    ap (λ (s : State). (run_of s).world.output) on ∙ ap (λ (w : PlainWorld). w.output) (run_world last) in
+    (later.0, whole ∙ (later.1 ∙ ap (λ (out : List ℕ). out ++ later.0) (sym first ∙ puts)))
 
 -- runs
 -- ====
 
-module _ (starts_behind : StartsBehind) (runs_behind : RunsBehind) (put_stands : PutStands) {S : Type 0} (told : S → Option (List ℕ)) (shelf : Shelf) (p : Program) (is : IsProgramOf shelf p) (name : Name) (room : Room) (ports : List PortState) (printed : List ℕ) (vm : Vm)
-    (opened : start p.library name (new_world room.cells room.bytes ports) ≡ machine_of p vm (new_world room.cells room.bytes ports)) where
+module _ {S : Type 0} (told : S → Option (List ℕ)) (shelf : Shelf) (p : Program) (is : IsProgramOf shelf p) (ports : List PortState) (printed : List ℕ) (vm : Vm) where
   abbrev here : PlainWorld
-  here = begins_in p name room 0 ports printed
+  here = goes_in ports printed
+
+  abbrev from : State
+  from = standing p vm ports
 
   abbrev r : ℕ → Run
-  r n = run p.library name room.cells room.bytes ports n
+  r n = run_from p.library from n
 
-  -- the world in which it begins is the one that the sink and the ports tell
+  -- the world in which it goes on is the one that the sink and the ports tell
   pub agrees : (before : Outside S) → told before.out ≡ Some printed → Tell before.ports ports → Agree told before here
   agrees before e t = record { output = e ∙ ap Some (sym (append-nil printed)); ports = t }
 
-  begins : start p.library name here ≡ machine_of p vm here
-  begins = starts_behind p.library name (new_world room.cells room.bytes ports) printed
-      ∙ (ap (state_behind printed) opened ∙ sym (machine_behind p printed vm (new_world room.cells room.bytes ports)))
+  runs_behind : (n : ℕ) → run_of (steps p.library n (machine_of p vm here)) ≡ run_behind printed (r n)
+  runs_behind n =
+      ap (λ (s : State). run_of (steps p.library n s)) (machine_behind p printed vm (with_ports ports))
+      ∙ (ap run_of (steps_behind printed p.library n from) ∙ run_is_behind printed (steps p.library n from))
 
   -- where the machine comes to
   comes : (n : ℕ) (new : Vm) (after : PlainWorld) → steps p.library n (machine_of p vm here) ≡ machine_of p new after → run_of (machine_of p new after) ≡ run_behind printed (r n)
-  comes n new after e = ap run_of (sym (ap (steps p.library n) begins ∙ e)) ∙ runs_behind p.library name room.cells room.bytes ports n printed
+  comes n new after e = ap run_of (sym e) ∙ runs_behind n
 
   world_is : (n : ℕ) (new : Vm) (after : PlainWorld) → steps p.library n (machine_of p vm here) ≡ machine_of p new after → world_in p new after ≡ behind printed (r n).world
   world_is n new after e = sym (world_as p new.end new.paid new.frames.calls (world_in p new after)) ∙ ap (λ (x : Run). x.world) (comes n new after e)
@@ -154,13 +164,9 @@ module _ (starts_behind : StartsBehind) (runs_behind : RunsBehind) (put_stands :
   told_then : (n : ℕ) (new : Vm) (seen : Outside S) → (x : RunsFor told p vm here n new seen) → Tell seen.ports (r n).world.ports
   told_then n new seen x = subst (Tell seen.ports) (ap (λ (w : PlainWorld). w.ports) (world_is n new x.after x.steps)) x.agree.ports
 
-  -- where it stands behind these steps
-  pub stood : (n : ℕ) (new : Vm) (seen : Outside S) → (x : RunsFor told p vm here n new seen) → steps p.library n (start p.library name here) ≡ machine_of p new x.after
-  stood n new seen x = ap (steps p.library n) begins ∙ x.steps
-
   -- it ran to its end, or for all its steps, and what it printed was handed on
   pub ran : (n : ℕ) (new : Vm) (old behind_flush : Sight) (seen : Outside S) → old.out ≡ Some printed → RunsFor told p vm here n new seen
-      → Keeps (told seen.out) behind_flush.out → behind_flush.ports ≡ seen.ports → Ran p name room n ports old behind_flush (answer_of new.end) (said_by shelf new new.end)
+      → Keeps (told seen.out) behind_flush.out → behind_flush.ports ≡ seen.ports → RanFrom p.library from n old behind_flush (answer_of new.end) (said_by shelf new new.end)
   ran n new old now seen e x kept same =
       let state = comes n new x.after x.steps in
       let heap = ap (λ (w : PlainWorld). w.heap) (world_is n new x.after x.steps) in
@@ -176,7 +182,7 @@ module _ (starts_behind : StartsBehind) (runs_behind : RunsBehind) (put_stands :
 
   -- it did, but what it printed couldn't be handed on
   pub ran_unflushed : (n : ℕ) (new : Vm) (old now : Sight) (seen : Outside S) → old.out ≡ Some printed → RunsFor told p vm here n new seen
-      → Keeps (told seen.out) now.out → now.ports ≡ seen.ports → CutShort p name room n ports old now
+      → Keeps (told seen.out) now.out → now.ports ≡ seen.ports → CutFrom p.library from n old now
   ran_unflushed n new old now seen e x kept same = record {
     output = record {
       front = (r n).world.output;
@@ -193,51 +199,48 @@ module _ (starts_behind : StartsBehind) (runs_behind : RunsBehind) (put_stands :
     next = inl refl;
   }
 
-  -- what is printed behind the next step
-  one_more : (n : ℕ) (text before front rest : List ℕ) → (run_of (step p.library (steps p.library n (start p.library name here)))).world.output ≡ (printed ++ before) ++ text → text ≡ front ++ rest
-      → (r (n + 1)).world.output ≡ (before ++ front) ++ rest
-  one_more n text before front rest next parts =
-      let whole : printed ++ (r (suc n)).world.output ≡ (printed ++ before) ++ text =
-      sym (ap (λ (x : Run). x.world.output) (runs_behind p.library name room.cells room.bytes ports (suc n) printed))
-      ∙ (ap (λ (s : State). (run_of s).world.output) (steps_last p.library n (start p.library name here)) ∙ next) in
-      ap (λ (k : ℕ). (r k).world.output) (add-one n)
-      ∙ (append_cancel_left printed (r (suc n)).world.output (before ++ text) (whole ∙ append_assoc printed before text)
-      ∙ (ap (λ (t : List ℕ). before ++ t) parts ∙ sym (append_assoc before front rest)))
+  -- what the next step adds
+  one_more : (n : ℕ) (text : List ℕ) → (run_of (step p.library (steps p.library n (machine_of p vm here)))).world.output ≡ (printed ++ (r n).world.output) ++ text
+      → (r (suc n)).world.output ≡ (r n).world.output ++ text
+  one_more n text next =
+      let whole : printed ++ (r (suc n)).world.output ≡ (printed ++ (r n).world.output) ++ text =
+      sym (ap (λ (x : Run). x.world.output) (runs_behind (suc n)))
+      ∙ (ap (λ (s : State). (run_of s).world.output) (steps_last p.library n (machine_of p vm here)) ∙ next) in
+      append_cancel_left printed (r (suc n)).world.output ((r n).world.output ++ text) (whole ∙ append_assoc printed (r n).world.output text)
 
   -- the sink failed in a put
   pub cut : (count : S → ℕ) (most : ℕ) (old : Sight) (seen : Outside S) → old.out ≡ Some printed → SinkFails told p vm here count most seen
-      → CutShort p name room most ports old (record { out = told seen.out; ports = seen.ports })
+      → CutFrom p.library from most old (record { out = told seen.out; ports = seen.ports })
   cut count most old seen e f =
       let x = f.runs in
-      let at : steps p.library f.taken (start p.library name here) ≡ machine_of p f.there x.after = ap (steps p.library f.taken) begins ∙ x.steps in
-      let there : (run_of (steps p.library f.taken (start p.library name here))).world.output ≡ x.after.output =
-      ap (λ (s : State). (run_of s).world.output) at ∙ ap (λ (w : PlainWorld). w.output) (world_as p f.there.end f.there.paid f.there.frames.calls (world_in p f.there x.after)) in
-      let next : (run_of (step p.library (steps p.library f.taken (start p.library name here)))).world.output ≡ x.after.output ++ f.text =
-      ap (λ (s : State). (run_of (step p.library s)).world.output) at ∙ (ap (λ (s : State). (run_of s).world.output) f.next ∙ ap (λ (w : PlainWorld). w.output) (running_world p 0 f.onwards _)) in
-      let stands = put_stands p.library name room.cells room.bytes ports f.taken most printed f.text f.within (next ∙ ap (λ (out : List ℕ). out ++ f.text) (sym there)) in
-      let part = f.puts.front refl in
       let before = (r f.taken).world.output in
+      let there : x.after.output ≡ printed ++ before = ap (λ (w : PlainWorld). w.output) (world_is f.taken f.there x.after x.steps) in
+      let puts : (run_of (step p.library (machine_of p f.there x.after))).world.output ≡ x.after.output ++ f.text =
+      ap (λ (s : State). (run_of s).world.output) f.next ∙ ap (λ (w : PlainWorld). w.output) (running_world p 0 f.onwards _) in
+      let next = ap (λ (s : State). (run_of (step p.library s)).world.output) x.steps ∙ (puts ∙ ap (λ (out : List ℕ). out ++ f.text) there) in
+      let more = one_more f.taken f.text next in
+      let stands = begins_longer p.library from f.taken most f.text f.within more in
+      let part = f.puts.front refl in
+      let fronts = Appends-trans old.out (told f.between.out) (told seen.out) before part.front (added f.taken f.there old.out f.between e x) part.added in
       record {
         output = record {
           front = before ++ part.front;
           rest = part.rest ++ stands.0;
           parts = stands.1 ∙ (ap (λ (t : List ℕ). (before ++ t) ++ stands.0) part.parts
               ∙ (ap (λ (t : List ℕ). t ++ stands.0) (sym (append_assoc before part.front part.rest)) ∙ append_assoc (before ++ part.front) part.rest stands.0));
-          added = Appends-trans old.out (told f.between.out) (told seen.out) before part.front (added f.taken f.there old.out f.between e x) part.added;
+          added = fronts;
         };
         taken = f.taken;
         within = omega (arith, f.within);
         told = subst (λ (views : List PortView). Tell views (r f.taken).world.ports) (sym f.ports) (told_then f.taken f.there f.between x);
         more = part.front;
-        added = Appends-trans old.out (told f.between.out) (told seen.out) before part.front (added f.taken f.there old.out f.between e x) part.added;
-        next = inr (f.within, (part.rest, one_more f.taken f.text before part.front part.rest (next ∙ ap (λ (out : List ℕ). out ++ f.text) (ap (λ (w : PlainWorld). w.output) (world_is f.taken f.there x.after x.steps))) part.parts));
+        added = fronts;
+        next = inr (f.within, (part.rest, ap (λ (k : ℕ). (r k).world.output) (add-one f.taken) ∙ (more ∙ (ap (λ (t : List ℕ). before ++ t) part.parts ∙ sym (append_assoc before part.front part.rest)))));
       }
 
   -- a port strayed
-  pub strayed : (most : ℕ) (old now : Sight) → Strays told p vm here most old.ports now.ports → Strayed p name room most ports printed old now
+  pub strayed : (most : ℕ) (old now : Sight) → Strays told p vm here most old.ports now.ports → StrayedOn p vm most ports printed old now
   strayed most old now s = record {
-    vm = vm;
-    starts = begins;
     strays = record {
       taken = s.taken;
       within = s.within;
@@ -257,15 +260,65 @@ module _ (starts_behind : StartsBehind) (runs_behind : RunsBehind) (put_stands :
   }
 
 -- the answers of a run that is over
-pub over : (p : Program) (name : Name) (room : Room) (n : ℕ) (ports : List PortState) (old now : Sight) (end : Option End) (said : List ℕ)
-    → Ran p name room n ports old now (answer_of end) said → EndsSo p name room n ports old now (answer_of end) said
-over p name room n ports old now None said x = x
-over p name room n ports old now (Some stops.Ended) said x = x
-over p name room n ports old now (Some (stops.Raised e)) said x = x
-over p name room n ports old now (Some (stops.Memory e)) said x = x
+over : (library : Library) (from : State) (n : ℕ) (old now : Sight) (end : Option End) (said : List ℕ)
+    → RanFrom library from n old now (answer_of end) said → EndsFrom library from n old now (answer_of end) said
+over library from n old now None said x = x
+over library from n old now (Some stops.Ended) said x = x
+over library from n old now (Some (stops.Raised e)) said x = x
+over library from n old now (Some (stops.Memory e)) said x = x
 
 -- what is said of the run in every program
 -- ========================================
+
+module _ {S : Type 0} (told : S → Option (List ℕ)) (shelf : Shelf) (steps : ℕ) (vm : Vm) (before behind : Outside S) where
+  abbrev old : Sight
+  old = record { out = told before.out; ports = before.ports }
+
+  -- the sink failed in the run
+  pub cut_in_all : (count : S → ℕ) (said : List ℕ) → RunsToFailure told shelf vm before behind steps count
+      → (p : Program) → IsProgramOf shelf p → (ports : List PortState) (printed : List ℕ) → told before.out ≡ Some printed → Tell before.ports ports
+      → EndsFrom p.library (standing p vm ports) steps old (record { out = told behind.out; ports = behind.ports }) ends.WriteFault said ⊎ StrayedOn p vm steps ports printed old (record { out = told behind.out; ports = behind.ports })
+  cut_in_all count said failed p is ports printed e t =
+      elim (failed p is (goes_in ports printed) (agrees told shelf p is ports printed vm before e t)) [
+        | inl f ↦ inl (cut told shelf p is ports printed vm count steps old behind e f)
+        | inr s ↦ inr (strayed told shelf p is ports printed vm steps old (record { out = told behind.out; ports = behind.ports }) s)
+      ]
+
+  module _ (new : Vm) (runs : MachineRuns told shelf vm before behind steps new) (flushed : Option (List ℕ)) (kept : Keeps (told behind.out) flushed) where
+    abbrev now : Sight
+    now = record { out = flushed; ports = behind.ports }
+
+    -- the run was made, and what it printed was handed on
+    pub over_in_all : (p : Program) → IsProgramOf shelf p → (ports : List PortState) (printed : List ℕ) → told before.out ≡ Some printed → Tell before.ports ports
+        → EndsFrom p.library (standing p vm ports) steps old now (answer_of new.end) (said_by shelf new new.end) ⊎ StrayedOn p vm steps ports printed old now
+    over_in_all p is ports printed e t =
+        elim (runs p is (goes_in ports printed) (agrees told shelf p is ports printed vm before e t)) [
+          | inl x ↦ inl (over p.library (standing p vm ports) steps old now new.end (said_by shelf new new.end) (ran told shelf p is ports printed vm steps new old now behind e x kept refl))
+          | inr s ↦ inr (strayed told shelf p is ports printed vm steps old now s)
+        ]
+
+    -- it took all its steps, and didn't end
+    pub stands_in_all : new.end ≡ None → StandsOn shelf vm steps old now new
+    stands_in_all still_open = record {
+      goes_on = still_open;
+      stands = λ p is ports printed e t.
+          elim (runs p is (goes_in ports printed) (agrees told shelf p is ports printed vm before e t)) [
+            | inl x ↦ inl (x.after, x.steps)
+            | inr s ↦ inr (strayed told shelf p is ports printed vm steps old now s)
+          ];
+    }
+
+    -- it was made, and what it printed couldn't be handed on
+    pub unflushed_in_all : (said : List ℕ) → (p : Program) → IsProgramOf shelf p → (ports : List PortState) (printed : List ℕ) → told before.out ≡ Some printed → Tell before.ports ports
+        → EndsFrom p.library (standing p vm ports) steps old now ends.WriteFault said ⊎ StrayedOn p vm steps ports printed old now
+    unflushed_in_all said p is ports printed e t =
+        elim (runs p is (goes_in ports printed) (agrees told shelf p is ports printed vm before e t)) [
+          | inl x ↦ inl (ran_unflushed told shelf p is ports printed vm steps new old now behind e x kept refl)
+          | inr s ↦ inr (strayed told shelf p is ports printed vm steps old now s)
+        ]
+
+-- the run of a main module, with whose machine it begins
+-- ======================================================
 
 -- the main module's name in a program
 main_named : (shelf : Shelf) (p : Program) → IsProgramOf shelf p → (main : ℕ) (n : Named) → slice_get shelf.modules main ≡ Some n → p.tables.module_name main ≡ n.name
@@ -275,57 +328,64 @@ abbrev OpensAs : (shelf : Shelf) (main : ℕ) (room : Room) (vm : Vm) → Type 0
 OpensAs shelf main room vm = (p : Program) (name : Name) (ports : List PortState) → IsProgramOf shelf p → p.tables.module_name main ≡ name
     → start p.library name (new_world room.cells room.bytes ports) ≡ machine_of p vm (new_world room.cells room.bytes ports)
 
-module _ (starts_behind : StartsBehind) (runs_behind : RunsBehind) (put_stands : PutStands) {S : Type 0} (told : S → Option (List ℕ)) (shelf : Shelf) (main : ℕ) (n : Named) (at : slice_get shelf.modules main ≡ Some n) (room : Room) (steps : ℕ) (vm : Vm)
-    (opened : OpensAs shelf main room vm) (before behind : Outside S) where
-  abbrev old : Sight
-  old = record { out = told before.out; ports = before.ports }
+module _ (shelf : Shelf) (main : ℕ) (n : Named) (at : slice_get shelf.modules main ≡ Some n) (room : Room) (steps : ℕ) (vm : Vm) (opened : OpensAs shelf main room vm) (old now : Sight) where
+  begins : (p : Program) → IsProgramOf shelf p → (ports : List PortState) → start p.library n.name (new_world room.cells room.bytes ports) ≡ standing p vm ports
+  begins p is ports = opened p n.name ports is (main_named shelf p is main n at)
 
-  -- the sink failed in the run
-  pub cut_in_all : (count : S → ℕ) (said : List ℕ) → RunsToFailure told shelf vm before behind steps count
-      → (p : Program) → IsProgramOf shelf p → (ports : List PortState) (printed : List ℕ) → told before.out ≡ Some printed → Tell before.ports ports
-      → EndsSo p n.name room steps ports old (record { out = told behind.out; ports = behind.ports }) ends.WriteFault said ⊎ Strayed p n.name room steps ports printed old (record { out = told behind.out; ports = behind.ports })
-  cut_in_all count said failed p is ports printed e t =
-      let opens = opened p n.name ports is (main_named shelf p is main n at) in
-      elim (failed p is (begins_in p n.name room 0 ports printed) (agrees starts_behind runs_behind put_stands told shelf p is n.name room ports printed vm opens before e t)) [
-        | inl f ↦ inl (cut starts_behind runs_behind put_stands told shelf p is n.name room ports printed vm opens count steps old behind e f)
-        | inr s ↦ inr (strayed starts_behind runs_behind put_stands told shelf p is n.name room ports printed vm opens steps old (record { out = told behind.out; ports = behind.ports }) s)
-      ]
+  begins_behind : (p : Program) → IsProgramOf shelf p → (ports : List PortState) (printed : List ℕ) → start p.library n.name (begins_in p n.name room steps ports printed) ≡ machine_of p vm (goes_in ports printed)
+  begins_behind p is ports printed =
+      start_behind printed p.library n.name (new_world room.cells room.bytes ports)
+      ∙ (ap (state_behind printed) (begins p is ports) ∙ sym (machine_behind p printed vm (with_ports ports)))
 
-  module _ (new : Vm) (runs : MachineRuns told shelf vm before behind steps new) (flushed : Option (List ℕ)) (kept : Keeps (told behind.out) flushed) where
-    abbrev now : Sight
-    now = record { out = flushed; ports = behind.ports }
+  main_strayed : (p : Program) → IsProgramOf shelf p → (ports : List PortState) (printed : List ℕ) → StrayedOn p vm steps ports printed old now → Strayed p n.name room steps ports printed old now
+  main_strayed p is ports printed s = record {
+    vm = vm;
+    starts = begins_behind p is ports printed;
+    strays = record {
+      taken = s.strays.taken;
+      within = s.strays.within;
+      there = s.strays.there;
+      between = s.strays.between;
+      runs = record { after = s.strays.runs.after; agree = s.strays.runs.agree; steps = s.strays.runs.steps };
+      goes_on = s.strays.goes_on;
+      given = s.strays.given;
+      call = s.strays.call;
+      stands = s.strays.stands;
+      after_call = s.strays.after_call;
+      strays = s.strays.strays;
+      earlier = s.strays.earlier;
+      later = s.strays.later;
+    };
+    rose = s.rose;
+  }
 
-    -- the run was made, and what it printed was handed on
-    pub over_in_all : (p : Program) → IsProgramOf shelf p → (ports : List PortState) (printed : List ℕ) → told before.out ≡ Some printed → Tell before.ports ports
-        → EndsSo p n.name room steps ports old now (answer_of new.end) (said_by shelf new new.end) ⊎ Strayed p n.name room steps ports printed old now
-    over_in_all p is ports printed e t =
-        let opens = opened p n.name ports is (main_named shelf p is main n at) in
-        elim (runs p is (begins_in p n.name room 0 ports printed) (agrees starts_behind runs_behind put_stands told shelf p is n.name room ports printed vm opens before e t)) [
-          | inl x ↦ inl (over p n.name room steps ports old now new.end (said_by shelf new new.end) (ran starts_behind runs_behind put_stands told shelf p is n.name room ports printed vm opens steps new old now behind e x kept refl))
-          | inr s ↦ inr (strayed starts_behind runs_behind put_stands told shelf p is n.name room ports printed vm opens steps old now s)
-        ]
+  -- as its machine goes on
+  pub main_ran : (end : RunEnd) (said : List ℕ) → GoesOn shelf vm steps old now end said → RunsAs shelf n.name room steps old now end said
+  main_ran end said g = record {
+    program = g.program;
+    is_said = g.is_said;
+    runs = λ p is ports printed e t.
+        elim (g.runs p is ports printed e t) [
+          | inl x ↦ inl (subst (λ (s : State). EndsFrom p.library s steps old now end said) (sym (begins p is ports)) x)
+          | inr s ↦ inr (main_strayed p is ports printed s)
+        ];
+  }
 
-    -- it took all its steps, and didn't end
-    pub stands_in_all : new.end ≡ None → StandsAt shelf n.name room steps old now new
-    stands_in_all still_open = record {
-      goes_on = still_open;
-      stands = λ p is ports printed e t.
-          let opens = opened p n.name ports is (main_named shelf p is main n at) in
-          elim (runs p is (begins_in p n.name room 0 ports printed) (agrees starts_behind runs_behind put_stands told shelf p is n.name room ports printed vm opens before e t)) [
-            | inl x ↦ inl (x.after, stood starts_behind runs_behind put_stands told shelf p is n.name room ports printed vm opens steps new behind x)
-            | inr s ↦ inr (strayed starts_behind runs_behind put_stands told shelf p is n.name room ports printed vm opens steps old now s)
-          ];
-    }
+  -- and it stands where that machine does
+  main_stands : (left : Vm) → StandsOn shelf vm steps old now left → StandsAt shelf n.name room steps old now left
+  main_stands left g = record {
+    goes_on = g.goes_on;
+    stands = λ p is ports printed e t.
+        elim (g.stands p is ports printed e t) [
+          | inl x ↦ inl (x.0, ap (steps_of p.library steps) (begins_behind p is ports printed) ∙ x.1)
+          | inr s ↦ inr (main_strayed p is ports printed s)
+        ];
+  }
 
-    -- it was made, and what it printed couldn't be handed on
-    pub unflushed_in_all : (said : List ℕ) → (p : Program) → IsProgramOf shelf p → (ports : List PortState) (printed : List ℕ) → told before.out ≡ Some printed → Tell before.ports ports
-        → EndsSo p n.name room steps ports old now ends.WriteFault said ⊎ Strayed p n.name room steps ports printed old now
-    unflushed_in_all said p is ports printed e t =
-        let opens = opened p n.name ports is (main_named shelf p is main n at) in
-        elim (runs p is (begins_in p n.name room 0 ports printed) (agrees starts_behind runs_behind put_stands told shelf p is n.name room ports printed vm opens before e t)) [
-          | inl x ↦ inl (ran_unflushed starts_behind runs_behind put_stands told shelf p is n.name room ports printed vm opens steps new old now behind e x kept refl)
-          | inr s ↦ inr (strayed starts_behind runs_behind put_stands told shelf p is n.name room ports printed vm opens steps old now s)
-        ]
+  pub main_left : (end : RunEnd) (kept : Option Vm) → MatchOption kept (end ≢ ends.Limit) (λ left. (end ≡ ends.Limit) × StandsOn shelf vm steps old now left)
+      → MatchOption kept (end ≢ ends.Limit) (λ left. (end ≡ ends.Limit) × StandsAt shelf n.name room steps old now left)
+  main_left end None h = h
+  main_left end (Some left) h = (h.0, main_stands left h.1)
 
 -- where a run stands that took all its steps
 -- ==========================================

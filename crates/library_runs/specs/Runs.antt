@@ -15,8 +15,9 @@ use Rattle.vm_machine.specs.vm_frames.py_effects.Ends as plain
 use Rattle.vm_machine.specs.vm_frames.py_effects.Ends.{End, Run, end_report, new_world}
 use Rattle.vm_machine.specs.vm_frames.py_effects.Growth.{Starts}
 use Rattle.bc_machine.specs.py_values.Shown.{PlainHeap}
-use Rattle.vm_machine.specs.vm_frames.bc_machine.Library.{Name}
-use Rattle.vm_machine.specs.vm_frames.bc_machine.Machine.{run, start, steps as steps_of}
+use Rattle.vm_machine.specs.vm_frames.bc_machine.Library.{Name, Library}
+use Rattle.vm_machine.specs.vm_frames.bc_machine.State.{State}
+use Rattle.vm_machine.specs.vm_frames.bc_machine.Machine.{run_of, start, steps as steps_of}
 use Rattle.vm_machine.specs.vm_frames.bc_machine.Behind.{behind}
 use Rattle.prim_outputs.specs.Rooms.{room_line}
 use Rattle.vm_machine.specs.vm_starting.vm_states.Means.{Program}
@@ -86,29 +87,61 @@ IsSaid ends.Limit said = said ≡ []
 IsSaid ends.WriteFault said = said ≡ []
 IsSaid ends.NoMemory said = said ≡ []
 
--- a program of the library, the name of its main module, and its ports
-module _ (p : Program) (name : Name) (room : Room) (steps : ℕ) (ports : List PortState) where
-  -- the machine's run of the main module for these steps
-  abbrev pub run_for : ℕ → Run
-  run_for taken = run p.library name room.cells room.bytes ports taken
+-- from a state on
+-- ===============
 
+-- the run of a library from a state on, by how many steps it took
+abbrev pub run_from : Library → State → ℕ → Run
+run_from library from taken = run_of (steps_of library taken from)
+
+-- a library, the state from which it is run, and for how many steps
+module _ (library : Library) (from : State) (steps : ℕ) where
   -- it ended so, and this was said of it. Its output was added to what was printed, and the ports tell its ports
-  pub record Ran (old new : Sight) (end : RunEnd) (said : List ℕ) : Type 0 where
-    pub end_is : end ≡ end_of (run_for steps).end
-    pub said_is : said ≡ said_of (run_for steps).world.heap (run_for steps).end
-    pub output : Appends old.out new.out (run_for steps).world.output
-    pub told : Tell new.ports (run_for steps).world.ports
+  pub record RanFrom (old new : Sight) (end : RunEnd) (said : List ℕ) : Type 0 where
+    pub end_is : end ≡ end_of (run_from library from steps).end
+    pub said_is : said ≡ said_of (run_from library from steps).world.heap (run_from library from steps).end
+    pub output : Appends old.out new.out (run_from library from steps).world.output
+    pub told : Tell new.ports (run_from library from steps).world.ports
 
   -- The sink failed: a front of its output was added, all that was printed behind some step, and a front of what the next one prints. The
   -- ports tell those that it had behind that step.
-  pub record CutShort (old new : Sight) : Type 0 where
-    pub output : AppendsFront old.out new.out (run_for steps).world.output
+  pub record CutFrom (old new : Sight) : Type 0 where
+    pub output : AppendsFront old.out new.out (run_from library from steps).world.output
     pub taken : ℕ
     pub within : taken ≤ steps
-    pub told : Tell new.ports (run_for taken).world.ports
+    pub told : Tell new.ports (run_from library from taken).world.ports
     pub more : List ℕ
-    pub added : Appends old.out new.out ((run_for taken).world.output ++ more)
-    pub next : (more ≡ []) ⊎ ((taken < steps) × Starts ((run_for taken).world.output ++ more) (run_for (taken + 1)).world.output)
+    pub added : Appends old.out new.out ((run_from library from taken).world.output ++ more)
+    pub next : (more ≡ []) ⊎ ((taken < steps) × Starts ((run_from library from taken).world.output ++ more) (run_from library from (taken + 1)).world.output)
+
+  -- the run ended so, with what was said, between what was seen before and behind it
+  abbrev pub EndsFrom : (old new : Sight) → RunEnd → List ℕ → Type 0
+  EndsFrom old new ends.Ended said = RanFrom old new ends.Ended said
+  EndsFrom old new ends.Raised said = RanFrom old new ends.Raised said
+  EndsFrom old new ends.Memory said = RanFrom old new ends.Memory said
+  EndsFrom old new ends.Limit said = RanFrom old new ends.Limit said
+  EndsFrom old new ends.WriteFault said = CutFrom old new
+  EndsFrom old new ends.NoMemory said = new ≡ old
+
+-- of a main module
+-- ================
+
+-- a program of the library, the name of its main module, and its ports
+module _ (p : Program) (name : Name) (room : Room) (steps : ℕ) (ports : List PortState) where
+  -- the first state of its run
+  abbrev pub first_state : State
+  first_state = start p.library name (new_world room.cells room.bytes ports)
+
+  -- it ended so, or the sink failed, in the machine's run from there on
+  abbrev pub Ran : (old new : Sight) → RunEnd → (said : List ℕ) → Type 0
+  Ran old new end said = RanFrom p.library first_state steps old new end said
+
+  abbrev pub CutShort : (old new : Sight) → Type 0
+  CutShort old new = CutFrom p.library first_state steps old new
+
+  -- the run ended so, with what was said, between what was seen before and behind it
+  abbrev pub EndsSo : (old new : Sight) → RunEnd → (said : List ℕ) → Type 0
+  EndsSo old new end said = EndsFrom p.library first_state steps old new end said
 
   -- the world in which it begins behind what was printed
   abbrev pub begins_in : List ℕ → PlainWorld
@@ -122,21 +155,14 @@ module _ (p : Program) (name : Name) (room : Room) (steps : ℕ) (ports : List P
     pub strays : Strays (λ (told : Option (List ℕ)). told) p vm (begins_in printed) steps old.ports new.ports
     pub rose : RoseBeyond strays.strays.failed.number old.ports new.ports
 
-  -- the run ended so, with what was said, between what was seen before and behind it
-  abbrev pub EndsSo : (old new : Sight) → RunEnd → List ℕ → Type 0
-  EndsSo old new ends.Ended said = Ran old new ends.Ended said
-  EndsSo old new ends.Raised said = Ran old new ends.Raised said
-  EndsSo old new ends.Memory said = Ran old new ends.Memory said
-  EndsSo old new ends.Limit said = Ran old new ends.Limit said
-  EndsSo old new ends.WriteFault said = CutShort old new
-  EndsSo old new ends.NoMemory said = new ≡ old
-
 -- Where a run stands that took all its steps and didn't end: in each program of the library, where the sink told what was printed and the
 -- ports their contents, at the machine's state behind these steps
 pub record StandsAt (shelf : Shelf) (name : Name) (room : Room) (steps : ℕ) (old new : Sight) (vm : Vm) : Type 0 where
   pub goes_on : vm.end ≡ None
   pub stands : (p : Program) → IsProgramOf shelf p → (ports : List PortState) (printed : List ℕ) → old.out ≡ Some printed → Tell old.ports ports
-      → ((after : PlainWorld) × (steps_of p.library steps (start p.library name (begins_in p name room steps ports printed)) ≡ machine_of p vm after)) ⊎ Strayed p name room steps ports printed old new
+      → ((after : PlainWorld)
+      × (steps_of p.library steps (start p.library name (begins_in p name room steps ports printed)) ≡ machine_of p vm after))
+      ⊎ Strayed p name room steps ports printed old new
 
 -- How a run of the library's module of this name ended, in this room and with this bound on its steps: so in each program of the
 -- library, of which there is one, where the sink told what was printed and the ports their contents.
@@ -156,3 +182,38 @@ RunsSo shelf name room steps old new end said =
 -- a text was put, or a put failed behind a front of it, and then the count of faults rose
 abbrev pub Says : (old new : Option (List ℕ)) (count_old count_new : ℕ) → List ℕ → Type 0
 Says old new count_old count_new text = (Appends old new text × (count_new ≡ count_old)) ⊎ (AppendsFront old new text × Rose count_old count_new)
+
+-- of a machine that goes on
+-- =========================
+
+-- a world with these ports, where nothing was printed. Objects and modules are those of the machine that stands in it
+abbrev pub with_ports : List PortState → PlainWorld
+with_ports ports = new_world 0 0 ports
+
+-- the state from which a machine goes on
+abbrev pub standing : Program → Vm → List PortState → State
+standing p vm ports = machine_of p vm (with_ports ports)
+
+-- and the world in which it does so behind what was printed
+abbrev pub goes_in : List PortState → (printed : List ℕ) → PlainWorld
+goes_in ports printed = behind printed (with_ports ports)
+
+-- a port failed, though the machine's call of it doesn't fail, and its count of faults rose beyond the faults that it tells
+pub record StrayedOn (p : Program) (vm : Vm) (steps : ℕ) (ports : List PortState) (printed : List ℕ) (old new : Sight) : Type 0 where
+  pub strays : Strays (λ (told : Option (List ℕ)). told) p vm (goes_in ports printed) steps old.ports new.ports
+  pub rose : RoseBeyond strays.strays.failed.number old.ports new.ports
+
+-- How a machine's run on ended, with this bound on its further steps: so in each program of the library, of which there is one, where the
+-- sink told what was printed and the ports their contents.
+pub record GoesOn (shelf : Shelf) (vm : Vm) (steps : ℕ) (old new : Sight) (end : RunEnd) (said : List ℕ) : Type 0 where
+  pub program : (p : Program) × IsProgramOf shelf p
+  pub is_said : IsSaid end said
+  pub runs : (p : Program) → IsProgramOf shelf p → (ports : List PortState) (printed : List ℕ) → old.out ≡ Some printed → Tell old.ports ports
+      → EndsFrom p.library (standing p vm ports) steps old new end said ⊎ StrayedOn p vm steps ports printed old new
+
+-- where it stands that took all these steps and didn't end: in each such program at the machine's state behind them
+pub record StandsOn (shelf : Shelf) (vm : Vm) (steps : ℕ) (old new : Sight) (left : Vm) : Type 0 where
+  pub goes_on : left.end ≡ None
+  pub stands : (p : Program) → IsProgramOf shelf p → (ports : List PortState) (printed : List ℕ) → old.out ≡ Some printed → Tell old.ports ports
+      → ((after : PlainWorld) × (steps_of p.library steps (machine_of p vm (goes_in ports printed)) ≡ machine_of p left after))
+      ⊎ StrayedOn p vm steps ports printed old new

@@ -8,5 +8,5 @@ mod running;
 
 pub use ending::RunEnd;
 pub use laws::accounted_law;
-pub use running::{run_for, run_library};
-pub use vm_machine::{Vm, program_law};
+pub use running::{run_for, run_library, run_on};
+pub use vm_machine::{Rows, Vm, program_law};

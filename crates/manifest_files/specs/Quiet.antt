@@ -14,12 +14,14 @@ IsNothing quiet (Another inner) = quiet inner
 abbrev pub IsQuiet : FileOf → (left : ℕ) → (name : List ℕ) → Type 0
 IsQuiet files zero name = ⊥
 IsQuiet files (suc left) name =
-    (bytes : List ℕ) × (lines : List Line) × (files name ≡ Some bytes) × AreLines bytes lines × All (λ line. IsNothing (IsQuiet files left) (line_saying [] name line)) lines
+    (bytes : List ℕ) × (lines : List Line) × (files name ≡ Some bytes) × AreLines bytes lines
+    × All (λ line. IsNothing (IsQuiet files left) (line_saying [] name line)) lines
 
 -- a line of the outer manifest includes the inner one
 abbrev pub Includes : FileOf → (outer inner : List ℕ) → Type 0
 Includes files outer inner =
-    (bytes : List ℕ) × (lines : List Line) × (line : Line) × (files outer ≡ Some bytes) × AreLines bytes lines × Contains lines line × (line_saying [] outer line ≡ Another inner)
+    (bytes : List ℕ) × (lines : List Line) × (line : Line) × (files outer ≡ Some bytes) × AreLines bytes lines × Contains lines line
+    × (line_saying [] outer line ≡ Another inner)
 
 -- so, with that many manifests between
 abbrev pub IncludesOver : FileOf → (between : ℕ) → (outer inner : List ℕ) → Type 0

@@ -51,7 +51,8 @@ fn one_line<F: Folder>(
     requires room { left < MAX_OPEN }
     requires known { IfSome (F.files folder.old) (λ files. AreQuiet files quiet.old.entries) }
     requires over { IfSome (F.files folder.old) (λ files. LeadsOn files opened.old.items name.now line.now) }
-    ensures told { IfSome (F.files folder.old) (λ files. Tells (LineSays files left opened.old.items name.now line.now) entries.old.items result entries.new.items) }
+    ensures told { IfSome (F.files folder.old)
+        (λ files. Tells (LineSays files left opened.old.items name.now line.now) entries.old.items result entries.new.items) }
     ensures opened { OnOk result (opened.new.items ≡ opened.old.items) }
     ensures kept { OnOk result (IfSome (F.files folder.old) (λ files. AreQuiet files quiet.new.entries)) }
     ensures same { F.files folder.new ≡ F.files folder.old }
@@ -81,7 +82,8 @@ fn all_lines<F: Folder>(
     requires room { left < MAX_OPEN }
     requires known { IfSome (F.files folder.old) (λ files. AreQuiet files quiet.old.entries) }
     requires over { IfSome (F.files folder.old) (λ files. All (LeadsOn files opened.old.items name.now) lines.now) }
-    ensures told { IfSome (F.files folder.old) (λ files. Tells (AreSaid (LineSays files left opened.old.items name.now) lines.now) entries.old.items result entries.new.items) }
+    ensures told { IfSome (F.files folder.old)
+        (λ files. Tells (AreSaid (LineSays files left opened.old.items name.now) lines.now) entries.old.items result entries.new.items) }
     ensures opened { OnOk result (opened.new.items ≡ opened.old.items) }
     ensures kept { OnOk result (IfSome (F.files folder.old) (λ files. AreQuiet files quiet.new.entries)) }
     ensures same { F.files folder.new ≡ F.files folder.old }

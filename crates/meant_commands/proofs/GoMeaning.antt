@@ -73,6 +73,7 @@ module _ (o : OfSources) (level : ℕ) (room : Room) (steps : ℕ) (name : List 
   program_by files said (Stopped stops.Memory) is h made = program_of files h.0.library h.1.0
   program_by files said (Stopped (stops.Steps count)) is h made = program_of files h.0.0.library h.0.1.0
   program_by files said (Stopped stops.Unsaved) is h made = absurd h
+  program_by files said (Stopped (stops.Unresumed fault)) is h made = absurd h
   program_by files said WriteFault is h made = program_of files h.0.library h.1.0
   program_by files said (Stopped (stops.Past limit)) is h made = none files 11 (λ e. absurd cc) (λ e. absurd cc) (λ e. absurd cc) (λ e. absurd cc) (λ e. absurd cc) is made
   program_by files said (Stopped (stops.LibraryUnaccepted source)) is h made = none files 3 (λ e. absurd cc) (λ e. absurd cc) (λ e. absurd cc) (λ e. absurd cc) (λ e. absurd cc) is made

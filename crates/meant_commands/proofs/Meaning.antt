@@ -157,6 +157,7 @@ module _ (law : MeantLaw) (Comes : Libraries) (program : Program) (room : Room) 
   meant_by (Stopped (stops.Steps count)) is says h =
       ran ends.Limit (over ends.Limit is (subst (λ (n : ℕ). SaysEnd (Stopped (stops.Steps n))) h.1 says) (not_eight 5 (λ e. absurd cc) is)) h.0
   meant_by (Stopped stops.Unsaved) is says h = absurd h
+  meant_by (Stopped (stops.Unresumed fault)) is says h = absurd h
   meant_by (Stopped (stops.Past limit)) is says h = none 11 (λ e. absurd cc) (λ e. absurd cc) (λ e. absurd cc) (λ e. absurd cc) (λ e. absurd cc) is
   meant_by (Stopped (stops.LibraryFault path)) is says h = none 7 (λ e. absurd cc) (λ e. absurd cc) (λ e. absurd cc) (λ e. absurd cc) (λ e. absurd cc) is
   meant_by (Stopped (stops.LibraryUnaccepted source)) is says h = none 3 (λ e. absurd cc) (λ e. absurd cc) (λ e. absurd cc) (λ e. absurd cc) (λ e. absurd cc) is
@@ -214,6 +215,7 @@ module _ (law : MeantLaw) (Comes : Libraries) (program : Program) (room : Room) 
     meant_to (Stopped stops.Memory) is says h = meant_by (Stopped stops.Memory) is says h.0
     meant_to (Stopped (stops.Steps count)) is says h = meant_by (Stopped (stops.Steps count)) is says (suspended h.0, h.1)
     meant_to (Stopped stops.Unsaved) is says h = none 13 (λ e. absurd cc) (λ e. absurd cc) (λ e. absurd cc) (λ e. absurd cc) (λ e. absurd cc) is
+    meant_to (Stopped (stops.Unresumed fault)) is says h = absurd h.0
     meant_to (Stopped (stops.Past limit)) is says h = meant_by (Stopped (stops.Past limit)) is says h.0
     meant_to (Stopped (stops.LibraryFault path)) is says h = meant_by (Stopped (stops.LibraryFault path)) is says h.0
     meant_to (Stopped (stops.LibraryUnaccepted source)) is says h = meant_by (Stopped (stops.LibraryUnaccepted source)) is says h.0

@@ -19,7 +19,8 @@ use Rattle.run_commands.specs.command_files.Outside.{Outside}
 -- Where a library was run, the source of this name and those that it asks for in its folder have a program at the level. The run does as
 -- this program means, of which there is one, in this room and for these steps, where the sink of the output and the ports tell what they
 -- have, and each port its faults.
-pub record MeansSources (level : ℕ) (room : Room) (steps : ℕ) (name : List ℕ) (old new : Outside) (ports_old ports_new : List PortView) (status : ℕ) (files : FileOf) : Type 0 where
+pub record MeansSources (level : ℕ) (room : Room) (steps : ℕ) (name : List ℕ) (old new : Outside) (ports_old ports_new : List PortView)
+    (status : ℕ) (files : FileOf) : Type 0 where
   pub has_program : IsRunStatus status ⊎ (status ≡ 8) → (program : Program) × IsProgramOfSources files (base_of name) name level program
   pub means : (program : Program) → IsProgramOfSources files (base_of name) name level program
       → (ports : List PortState) (printed : List ℕ) → Tell ports_old ports → AreAccounted ports_old ports_new → old.out ≡ Some printed

@@ -35,7 +35,8 @@ Libraries = Option FileOf → (name : List ℕ) → Result Ready Ending → Type
 abbrev pub HoldsProgram : Libraries → Option FileOf → (name : List ℕ) → Program → Type 0
 HoldsProgram Comes files name program = (ready : Ready) → Comes files name (Ok ready) → (program.main_name ≡ ready.main) × AreUnits program ready.library
 
--- The file under the name is made of the program's main unit, by compiling and merging, or is a translation of its source, and so is each file that its library has of the
+-- The file under the name is made of the program's main unit, by compiling and merging, or is a translation of its source, and
+-- so is each file that its library has of the
 -- unit that the program has under that name.
 pub record HoldsBuilt (files : FileOf) (name : List ℕ) (program : Program) : Type 0 where
   pub bytes : List ℕ

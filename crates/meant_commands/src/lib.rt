@@ -10,3 +10,6 @@ pub use going::{run_law, sources_law};
 pub use meant::{
     crossed_holds_law, go_means_law, holds_law, image_holds_law, makes_law, run_means_law,
 };
+pub use run_commands::{
+    Ready, place_of, resume, run_loaded, run_ready, run_saving, source_ready, stress,
+};

@@ -34,10 +34,12 @@ use meant_files::{
 /// A run of a file or an image, over whichever library, also where its state is saved, and of a source, does as each program means whose
 /// units its library has.
 pub fn run_means_law()
-    ensures run { (below : Shelf) (main : List ℕ) (room : Room) (steps : ℕ) (name : List ℕ) (old new : Outside) (ports_old ports_new : List PortView) (status : ℕ)
+    ensures run { (below : Shelf) (main : List ℕ) (room : Room) (steps : ℕ) (name : List ℕ) (old new : Outside)
+        (ports_old ports_new : List PortView) (status : ℕ)
         → EndsRun (RunLibrary below main) room steps name old new ports_old ports_new status
         → RunMeans (RunLibrary below main) room steps name old new ports_old ports_new status }
-    ensures saving { (below : Shelf) (main : List ℕ) (snap : Option (List ℕ)) (room : Room) (steps : ℕ) (name : List ℕ) (old new : Outside) (ports_old ports_new : List PortView) (status : ℕ)
+    ensures saving { (below : Shelf) (main : List ℕ) (snap : Option (List ℕ)) (room : Room) (steps : ℕ) (name : List ℕ) (old new : Outside)
+        (ports_old ports_new : List PortView) (status : ℕ)
         → EndsRunTo snap (RunLibrary below main) room steps name old new ports_old ports_new status
         → RunMeans (RunLibrary below main) room steps name old new ports_old ports_new status }
     ensures source { (level : ℕ) (room : Room) (steps : ℕ) (name : List ℕ) (old new : Outside) (ports_old ports_new : List PortView) (status : ℕ)

@@ -3,7 +3,11 @@
 use Rattle.std.specs.Prelude.{List, [], ◌∷◌, ◌++◌, map}
 use Rattle.std.specs.List.{flat_map}
 use Rattle.tr_source.specs.py_tree.declared.stmt.Alias.{Alias}
-use Rattle.tr_source.specs.bc_scheme.py_meaning.Tree.{Name, Stmt, Do, Assign, AugName, AugAttr, AugIndex, Delete, Pass, Break, Continue, ReturnNone, Return, Reraise, Raise, Assert, AssertWith, Import, From, If, While, For, Try, Finally, TryFinally, Def, Block, End, Next, Branches, Else, Case, Handlers, NoHandler, Any, On, OnAs, Function, functions}
+use Rattle.tr_source.specs.bc_scheme.py_meaning.Tree.{Name, Stmt, Do, Assign, AugName, AugAttr, AugIndex, Delete, Pass, Break}
+use Rattle.tr_source.specs.bc_scheme.py_meaning.Tree.{Continue, ReturnNone, Return, Reraise, Raise, Assert, AssertWith, Import}
+use Rattle.tr_source.specs.bc_scheme.py_meaning.Tree.{From, If, While, For, Try, Finally, TryFinally, Def, Block, End, Next}
+use Rattle.tr_source.specs.bc_scheme.py_meaning.Tree.{Branches, Else, Case, Handlers, NoHandler, Any, On, OnAs, Function}
+use Rattle.tr_source.specs.bc_scheme.py_meaning.Tree.{functions}
 use Rattle.tr_source.specs.bc_scheme.py_meaning.Program.{Source}
 
 -- the names that an import names

@@ -17,7 +17,7 @@ const HEAD: &str = "mpy: a verified tool chain for MicroPython bytecode files (f
 ";
 
 /// The commands that run something.
-const RUN: [Help; 4] = [
+const RUN: [Help; 5] = [
     Help {
         name: "go",
         lines: "  mpy go main.py                compile and run a source; no file is written
@@ -59,6 +59,27 @@ run takes all its steps.
   --save SNAP   the file that gets its state as bytes where it takes them all
 
 example: mpy run examples/sensor.mpy --cells 4000
+",
+    },
+    Help {
+        name: "resume",
+        lines: "  mpy resume main.mpy main.snap go on with a run whose state was saved
+",
+        text: "usage: mpy resume FILE SNAP [--base IMAGE] [--steps N] [--save SNAP]
+
+Goes on with a run of the file or the image FILE from the state that SNAP has,
+as `mpy run FILE --save SNAP` wrote it, in the room of that run. FILE and the
+files of the modules that it imports have to be those of that run. Port 0 is as
+that of `mpy go`. No file is written but the SNAP behind --save, where the run
+takes all its steps.
+
+  --base IMAGE  the image over which the image FILE was frozen
+  --steps N     how many steps more it may take, at most 1,000,000,000,000
+                (10,000,000)
+  --save SNAP   the file that gets its state as bytes where it takes them all;
+                it may be the one from which it goes on
+
+example: mpy resume loop.mpy loop.snap --steps 10 --save loop.snap
 ",
     },
     Help {

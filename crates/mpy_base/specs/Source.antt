@@ -1,7 +1,9 @@
 -- How a line names the fault of a source.
 use Rattle.std.specs.Prelude.{ℕ, List, codes}
 use Rattle.mpy_base.specs.declared.source.SourceCode.{SourceCode}
-use Rattle.mpy_base.specs.declared.source.SourceCode.TheVariants.{BadByte, BadToken, BadIndent, TooBigNumber, NotInProfile, Syntax, TooDeep, Capture, LateGlobal, OutsideLoop, OutsideFunction, TooLong, StateTooBig}
+use Rattle.mpy_base.specs.declared.source.SourceCode.TheVariants.{BadByte, BadToken, BadIndent, TooBigNumber, NotInProfile}
+use Rattle.mpy_base.specs.declared.source.SourceCode.TheVariants.{Syntax, TooDeep, Capture, LateGlobal, OutsideLoop}
+use Rattle.mpy_base.specs.declared.source.SourceCode.TheVariants.{OutsideFunction, TooLong, StateTooBig}
 
 -- the number of the fault, which the line tells
 abbrev pub number_of : SourceCode → ℕ

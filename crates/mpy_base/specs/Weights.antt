@@ -1,7 +1,9 @@
 -- What makings take of an arena's cells and bytes, and when they fit.
-use Rattle.std.specs.Prelude.{◌≡◌, ℕ, zero, suc, ◌+◌, ◌*◌, ◌-◌, ◌^◌, ◌≤◌, min, Bool, true, false, ◌&&◌, nat_le, List, [], ◌∷◌, ◌++◌, length, Some, None, replicate, if◌then◌else◌}
+use Rattle.std.specs.Prelude.{◌≡◌, ℕ, zero, suc, ◌+◌, ◌*◌, ◌-◌, ◌^◌, ◌≤◌, min, Bool, true, false, ◌&&◌, nat_le, List, [], ◌∷◌}
+use Rattle.std.specs.Prelude.{◌++◌, length, Some, None, replicate, if◌then◌else◌}
 use Rattle.mpy_base.specs.declared.room.NoRoom.{NoRoom}
-use Rattle.mpy_base.specs.World.{Object, ListObject, TupleObject, TextObject, DictObject, FunctionObject, ExceptionObject, MethodObject, RangeObject, ModuleObject, Heap, items_at, pairs_at, room_at, with_object}
+use Rattle.mpy_base.specs.World.{Object, ListObject, TupleObject, TextObject, DictObject, FunctionObject, ExceptionObject}
+use Rattle.mpy_base.specs.World.{MethodObject, RangeObject, ModuleObject, Heap, items_at, pairs_at, room_at, with_object}
 
 -- the cells of an object behind its first
 abbrev pub more_cells : {V N : Type 0} → Object V N → ℕ

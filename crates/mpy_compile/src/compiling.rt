@@ -169,7 +169,8 @@ pub fn compile_law()
     ensures one { (level : ℕ) (source stored : List ℕ) (m n : Whole) → IsCompiled level source stored m → IsCompiled level source stored n → m ≡ n }
     ensures one_file { (level : ℕ) (source stored a b : List ℕ) → CompilesTo level source stored a → CompilesTo level source stored b → a ≡ b }
     ensures one_fault { (level : ℕ) (source stored : List ℕ) (f g : Fault) → IsFault level source stored f → IsFault level source stored g → f ≡ g }
-    ensures not_both { (level : ℕ) (source stored bytes : List ℕ) (fault : Fault) → CompilesTo level source stored bytes → IsFault level source stored fault → ⊥ }
+    ensures not_both { (level : ℕ) (source stored bytes : List ℕ) (fault : Fault) → CompilesTo level source stored bytes
+        → IsFault level source stored fault → ⊥ }
 {
     asked_law();
     accepted_law();

@@ -38,9 +38,11 @@ pub fn written_law()
 /// of the source.
 pub fn near_law()
     ensures near { (file : Name) (level : ℕ) (tree : Module) (whole : ModuleCode) → IsFormed tree → IsFaultless tree → AreWithin (source_of file level tree)
-        → IsTranslated (source_of file level tree) whole → IsShallow MAX_DEPTH whole.code → (tables : Tables) → TablesFit tables → SomeFar tables (codes whole) → ⊥ }
+        → IsTranslated (source_of file level tree) whole → IsShallow MAX_DEPTH whole.code → (tables : Tables) → TablesFit tables
+        → SomeFar tables (codes whole) → ⊥ }
     ensures count { (file : Name) (level : ℕ) (tree : Module) (whole : ModuleCode) → AreWithin (source_of file level tree)
-        → IsTranslated (source_of file level tree) whole → IsShallow MAX_DEPTH whole.code → length (codes whole) ≡ length (source_sites (source_of file level tree)) }
+        → IsTranslated (source_of file level tree) whole → IsShallow MAX_DEPTH whole.code
+        → length (codes whole) ≡ length (source_sites (source_of file level tree)) }
 {
     lengths_law();
     within_law();

@@ -1,7 +1,17 @@
 -- The names of operations and the signs of operators.
 use Rattle.std.specs.Prelude.{ℕ, List, [], ◌∷◌, codes, nat_le, ◌&&◌, slice_index_or, if◌then◌else◌}
 use Rattle.mpy_tree.specs.bc_ops.declared.instr.Op.{Op}
-use Rattle.mpy_tree.specs.bc_ops.declared.instr.Op.TheVariants.{LoadConstString, LoadName, LoadGlobal, LoadAttr, LoadMethod, StoreName, StoreGlobal, StoreAttr, DeleteName, DeleteGlobal, ImportName, ImportFrom, LoadConstObj, LoadFastN, StoreFastN, DeleteFast, BuildTuple, BuildList, BuildMap, UnpackSequence, MakeFunction, MakeFunctionDefargs, CallFunction, CallMethod, Jump, PopJumpIfTrue, PopJumpIfFalse, JumpIfTrueOrPop, JumpIfFalseOrPop, SetupExcept, SetupFinally, PopExceptJump, ForIter, LoadConstFalse, LoadConstNone, LoadConstTrue, LoadNull, LoadSubscr, StoreSubscr, DupTop, DupTopTwo, PopTop, RotTwo, RotThree, EndFinally, GetIterStack, StoreMap, ReturnValue, RaiseLast, RaiseObj, LoadFast, StoreFast}
+use Rattle.mpy_tree.specs.bc_ops.declared.instr.Op.TheVariants.{LoadConstString, LoadName, LoadGlobal, LoadAttr, LoadMethod}
+use Rattle.mpy_tree.specs.bc_ops.declared.instr.Op.TheVariants.{StoreName, StoreGlobal, StoreAttr, DeleteName, DeleteGlobal}
+use Rattle.mpy_tree.specs.bc_ops.declared.instr.Op.TheVariants.{ImportName, ImportFrom, LoadConstObj, LoadFastN, StoreFastN}
+use Rattle.mpy_tree.specs.bc_ops.declared.instr.Op.TheVariants.{DeleteFast, BuildTuple, BuildList, BuildMap, UnpackSequence}
+use Rattle.mpy_tree.specs.bc_ops.declared.instr.Op.TheVariants.{MakeFunction, MakeFunctionDefargs, CallFunction, CallMethod, Jump}
+use Rattle.mpy_tree.specs.bc_ops.declared.instr.Op.TheVariants.{PopJumpIfTrue, PopJumpIfFalse, JumpIfTrueOrPop, JumpIfFalseOrPop}
+use Rattle.mpy_tree.specs.bc_ops.declared.instr.Op.TheVariants.{SetupExcept, SetupFinally, PopExceptJump, ForIter, LoadConstFalse}
+use Rattle.mpy_tree.specs.bc_ops.declared.instr.Op.TheVariants.{LoadConstNone, LoadConstTrue, LoadNull, LoadSubscr, StoreSubscr}
+use Rattle.mpy_tree.specs.bc_ops.declared.instr.Op.TheVariants.{DupTop, DupTopTwo, PopTop, RotTwo, RotThree, EndFinally}
+use Rattle.mpy_tree.specs.bc_ops.declared.instr.Op.TheVariants.{GetIterStack, StoreMap, ReturnValue, RaiseLast, RaiseObj}
+use Rattle.mpy_tree.specs.bc_ops.declared.instr.Op.TheVariants.{LoadFast, StoreFast}
 
 -- the name of an operation: MicroPython's own
 abbrev pub operation_name : Op → List ℕ
@@ -66,8 +76,10 @@ unary_signs = codes "+" ∷ codes "-" ∷ codes "~" ∷ codes "not" ∷ []
 abbrev pub binary_signs : List (List ℕ)
 binary_signs =
     codes "<" ∷ codes ">" ∷ codes "==" ∷ codes "<=" ∷ codes ">=" ∷ codes "!=" ∷ codes "in" ∷ codes "is" ∷ codes "match"
-    ∷ codes "|" ∷ codes "^" ∷ codes "&" ∷ codes "<<" ∷ codes ">>" ∷ codes "+" ∷ codes "-" ∷ codes "*" ∷ codes "@" ∷ codes "//" ∷ codes "/" ∷ codes "%" ∷ codes "**"
-    ∷ codes "|" ∷ codes "^" ∷ codes "&" ∷ codes "<<" ∷ codes ">>" ∷ codes "+" ∷ codes "-" ∷ codes "*" ∷ codes "@" ∷ codes "//" ∷ codes "/" ∷ codes "%" ∷ codes "**" ∷ []
+    ∷ codes "|" ∷ codes "^" ∷ codes "&" ∷ codes "<<" ∷ codes ">>" ∷ codes "+" ∷ codes "-" ∷ codes "*" ∷ codes "@" ∷ codes "//" ∷ codes "/"
+    ∷ codes "%" ∷ codes "**"
+    ∷ codes "|" ∷ codes "^" ∷ codes "&" ∷ codes "<<" ∷ codes ">>" ∷ codes "+" ∷ codes "-" ∷ codes "*" ∷ codes "@" ∷ codes "//" ∷ codes "/"
+    ∷ codes "%" ∷ codes "**" ∷ []
 
 -- the sign of an operator with one operand
 abbrev pub unary_sign : ℕ → List ℕ

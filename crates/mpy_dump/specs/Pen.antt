@@ -12,7 +12,8 @@ pub record PenState : Type 0 where
 
 -- The text was gathered behind what was held: a front of both went out, and after an Ok the rest is held. After a failure
 -- a front of that front went out.
-pub record Gathers {S : Type 0} (told : S → Option (List ℕ)) (count : S → ℕ) (old new : S) (held text left : List ℕ) (result : Result (Unit {0}) Failed) : Type 0 where
+pub record Gathers {S : Type 0} (told : S → Option (List ℕ)) (count : S
+    → ℕ) (old new : S) (held text left : List ℕ) (result : Result (Unit {0}) Failed) : Type 0 where
   pub front : List ℕ
   pub rest : List ℕ
   pub parts : held ++ text ≡ front ++ rest

@@ -7,7 +7,7 @@ use Rattle.manifest_files.specs.declared.frozen_fault.FrozenFault.TheVariants as
 use Rattle.mpy_endings.specs.declared.ending.BoardFault.TheVariants as boards
 use Rattle.mpy_endings.specs.declared.ending.Ending.{Ending}
 use Rattle.mpy_endings.specs.declared.ending.Ending.TheVariants.{Done, Unaccepted, Unread, Unverified, Unmerged, Unopened, Unfrozen, Unboarded, Different, Stopped, ReadFault, WriteFault, Unwritten, NoMemory, Absent}
-use Rattle.mpy_endings.specs.declared.ending.Stop.TheVariants.{Past, LibraryFault, LibraryUnaccepted, Raised, Memory, Steps, Unsaved}
+use Rattle.mpy_endings.specs.declared.ending.Stop.TheVariants.{Past, LibraryFault, LibraryUnaccepted, Raised, Memory, Steps, Unsaved, Unresumed}
 use Rattle.mpy_endings.specs.Ending.{IsRunStatus, is_folder_fault, is_out_fault, status_of}
 
 pub not_run : (n : ℕ) → (n ≡ 0 → ⊥) → (n ≡ 1 → ⊥) → (n ≡ 5 → ⊥) → (n ≡ 6 → ⊥) → IsRunStatus n → ⊥
@@ -72,6 +72,7 @@ run_ended (Stopped Raised) s = inr (inl refl)
 run_ended (Stopped Memory) s = inr (inr (inl refl))
 run_ended (Stopped (Steps count)) s = inr (inr (inr (count, refl)))
 run_ended (Stopped Unsaved) s = absurd (thirteen s)
+run_ended (Stopped (Unresumed fault)) s = absurd (four s)
 run_ended ReadFault s = absurd (seven s)
 run_ended WriteFault s = absurd (not_eight s)
 run_ended Unwritten s = absurd (not_eight s)
@@ -116,6 +117,7 @@ unsaved_ended (Stopped Raised) s = absurd cc
 unsaved_ended (Stopped Memory) s = absurd cc
 unsaved_ended (Stopped (Steps count)) s = absurd cc
 unsaved_ended (Stopped Unsaved) s = refl
+unsaved_ended (Stopped (Unresumed fault)) s = absurd cc
 unsaved_ended ReadFault s = absurd cc
 unsaved_ended WriteFault s = absurd cc
 unsaved_ended Unwritten s = absurd cc
@@ -151,6 +153,7 @@ quiet_folder (Stopped Raised) a b = refl
 quiet_folder (Stopped Memory) a b = refl
 quiet_folder (Stopped (Steps count)) a b = refl
 quiet_folder (Stopped Unsaved) a b = refl
+quiet_folder (Stopped (Unresumed fault)) a b = refl
 quiet_folder ReadFault a b = absurd (a refl)
 quiet_folder WriteFault a b = refl
 quiet_folder Unwritten a b = absurd (b refl)

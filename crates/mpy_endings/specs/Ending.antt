@@ -8,11 +8,13 @@ use Rattle.manifest_files.specs.declared.frozen_fault.FrozenFault.{FrozenFault}
 use Rattle.manifest_files.specs.declared.frozen_fault.FrozenFault.TheVariants as frozen
 use Rattle.manifest_files.specs.FrozenFaults.{is_read_failure}
 use Rattle.mpy_endings.specs.declared.ending.Ending.{Ending}
-use Rattle.mpy_endings.specs.declared.ending.Ending.TheVariants.{Done, Unaccepted, Unread, Unverified, Unmerged, Unopened, Unfrozen, Unboarded, Different, Stopped, ReadFault, WriteFault, Unwritten, NoMemory, Absent}
+use Rattle.mpy_endings.specs.declared.ending.Ending.TheVariants.{Done, Unaccepted, Unread, Unverified, Unmerged, Unopened}
+use Rattle.mpy_endings.specs.declared.ending.Ending.TheVariants.{Unfrozen, Unboarded, Different, Stopped, ReadFault, WriteFault}
+use Rattle.mpy_endings.specs.declared.ending.Ending.TheVariants.{Unwritten, NoMemory, Absent}
 use Rattle.mpy_endings.specs.declared.ending.BoardFault.{BoardFault}
 use Rattle.mpy_endings.specs.declared.ending.BoardFault.TheVariants as boards
 use Rattle.mpy_endings.specs.declared.ending.Stop.{Stop}
-use Rattle.mpy_endings.specs.declared.ending.Stop.TheVariants.{Past, LibraryFault, LibraryUnaccepted, Raised, Memory, Steps, Unsaved}
+use Rattle.mpy_endings.specs.declared.ending.Stop.TheVariants.{Past, LibraryFault, LibraryUnaccepted, Raised, Memory, Steps, Unsaved, Unresumed}
 
 -- of a run that wasn't done
 abbrev pub stop_status : Stop → ℕ
@@ -23,6 +25,7 @@ stop_status Memory = 6
 stop_status (LibraryFault path) = 7
 stop_status (Past limit) = 11
 stop_status Unsaved = 13
+stop_status (Unresumed fault) = 4
 
 -- the status of an image that has no main module
 abbrev pub main_status : MainFault → ℕ
@@ -78,6 +81,7 @@ is_read_stop Raised = false
 is_read_stop Memory = false
 is_read_stop (Steps count) = false
 is_read_stop Unsaved = false
+is_read_stop (Unresumed fault) = false
 
 -- is it the fault of a file that wasn't written?
 abbrev pub is_output_fault : BoardFault → Bool
@@ -130,6 +134,7 @@ is_stop_said Raised = true
 is_stop_said Memory = true
 is_stop_said (Steps count) = false
 is_stop_said Unsaved = false
+is_stop_said (Unresumed fault) = false
 
 -- whether it was said in the run how the command ended
 abbrev pub is_said : Ending → Bool
@@ -158,6 +163,7 @@ IsSettledStop Raised = Unit {0}
 IsSettledStop Memory = Unit {0}
 IsSettledStop (Steps count) = Unit {0}
 IsSettledStop Unsaved = Unit {0}
+IsSettledStop (Unresumed fault) = Unit {0}
 
 -- neither a call that failed outside nor want of memory cut the command short that ended so
 abbrev pub IsSettled : Ending → Type 0

@@ -30,13 +30,17 @@ use Rattle.mpy_words.specs.declared.order.WordFault.{WordFault}
 use Rattle.mpy_words.specs.declared.order.WordFault.TheVariants.{NoCommand, Unknown, MissingName, MissingValue, BadNumber, Twice}
 use Rattle.mpy_words.specs.Command.{name_of as word_name, spelling_of}
 use Rattle.mpy_endings.specs.declared.ending.Ending.{Ending}
-use Rattle.mpy_endings.specs.declared.ending.Ending.TheVariants.{Done, Unaccepted, Unread, Unverified, Unmerged, Unopened, Unfrozen, Unboarded, Different, Stopped, ReadFault, WriteFault, Unwritten, NoMemory, Absent}
+use Rattle.mpy_endings.specs.declared.ending.Ending.TheVariants.{Done, Unaccepted, Unread, Unverified, Unmerged, Unopened}
+use Rattle.mpy_endings.specs.declared.ending.Ending.TheVariants.{Unfrozen, Unboarded, Different, Stopped, ReadFault, WriteFault}
+use Rattle.mpy_endings.specs.declared.ending.Ending.TheVariants.{Unwritten, NoMemory, Absent}
 use Rattle.mpy_endings.specs.declared.ending.Difference.{Difference}
 use Rattle.mpy_endings.specs.declared.ending.BoardFault.{BoardFault}
 use Rattle.mpy_endings.specs.declared.ending.BoardFault.TheVariants as boards
 use Rattle.mpy_endings.specs.declared.ending.Stop.{Stop}
-use Rattle.mpy_endings.specs.declared.ending.Stop.TheVariants.{Past, LibraryFault, LibraryUnaccepted, Raised, Memory, Steps, Unsaved}
+use Rattle.mpy_endings.specs.declared.ending.Stop.TheVariants.{Past, LibraryFault, LibraryUnaccepted, Raised, Memory, Steps, Unsaved, Unresumed}
 use Rattle.image_runs.specs.library_files.declared.limit.Limit.TheVariants as limits
+use Rattle.snap_grammar.specs.declared.fault.SnapFault.{SnapFault}
+use Rattle.snap_grammar.specs.declared.fault.SnapFault.TheVariants as snapshots
 
 -- a word that a fault names, left out where it is empty
 abbrev pub spaced : List ℕ → List ℕ
@@ -213,16 +217,27 @@ board_line name (boards.Plan fault) = plan_line name fault
 board_line name (boards.NoModule missing) = (codes "mpy: " ++ name ++ codes ": board 4 NoModule ") ++ (missing ++ codes "\n")
 board_line name (boards.Unwritten task) = codes "mpy: write fault " ++ decimal task ++ codes ".out\n"
 
--- what kept a file or a source from being run to its end: nothing of what was said in the run
-abbrev pub stop_line : Stop → List ℕ
-stop_line (Past limits.TooMany) = codes "mpy: library TooMany\n"
-stop_line (Past limits.Names) = codes "mpy: library Names\n"
-stop_line (LibraryFault path) = named_line (codes "mpy: read fault") path
-stop_line (LibraryUnaccepted source) = source_line source.path source.fault
-stop_line Raised = []
-stop_line Memory = []
-stop_line (Steps count) = codes "mpy: step limit " ++ decimal count ++ codes "\n"
-stop_line Unsaved = codes "mpy: snapshot TooBig\n"
+-- what is said of the fault of a snapshot
+abbrev pub snapshot_text : SnapFault → List ℕ
+snapshot_text snapshots.BadHeader = codes "1 BadHeader"
+snapshot_text snapshots.BadForm = codes "2 BadForm"
+snapshot_text snapshots.BadState = codes "3 BadState"
+
+-- why a run doesn't go on from the file of this name
+abbrev pub snapshot_line : List ℕ → SnapFault → List ℕ
+snapshot_line name fault = (codes "mpy: " ++ name ++ codes ": snapshot ") ++ (snapshot_text fault ++ codes "\n")
+
+-- what kept a file or a source from being run to its end, or on from the file of this name: nothing of what was said in the run
+abbrev pub stop_line : List ℕ → Stop → List ℕ
+stop_line name (Past limits.TooMany) = codes "mpy: library TooMany\n"
+stop_line name (Past limits.Names) = codes "mpy: library Names\n"
+stop_line name (LibraryFault path) = named_line (codes "mpy: read fault") path
+stop_line name (LibraryUnaccepted source) = source_line source.path source.fault
+stop_line name Raised = []
+stop_line name Memory = []
+stop_line name (Steps count) = codes "mpy: step limit " ++ decimal count ++ codes "\n"
+stop_line name Unsaved = codes "mpy: snapshot TooBig\n"
+stop_line name (Unresumed fault) = snapshot_line name fault
 
 -- what is said of a command on the file of this name
 abbrev pub line_of : List ℕ → Ending → List ℕ
@@ -235,7 +250,7 @@ line_of name (Unopened fault) = main_line name fault
 line_of name (Unfrozen fault) = frozen_line name fault
 line_of name (Unboarded fault) = board_line name fault
 line_of name (Different difference) = difference_line name difference
-line_of name (Stopped stop) = stop_line stop
+line_of name (Stopped stop) = stop_line name stop
 line_of name ReadFault = named_line (codes "mpy: read fault") name
 line_of name WriteFault = codes "mpy: write fault out\n"
 line_of name Unwritten = named_line (codes "mpy: write fault") name

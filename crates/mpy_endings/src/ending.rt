@@ -12,6 +12,7 @@ use manifest_files::{FrozenFault, SourcesFault};
 use mpy_base::{Items, SourceFault, Text};
 use mpy_merge::MergeFault;
 use mpy_reader::FileFault;
+use snap_grammar::SnapFault;
 use trans_parts::What;
 
 /// What keeps a file or a source from being run to its end.
@@ -31,6 +32,8 @@ pub enum Stop {
     Steps(u64),
     /// It took all its steps and didn't end, and its state has no snapshot.
     Unsaved,
+    /// It was to go on from a snapshot, and the file of that name is none of a state of the library.
+    Unresumed(SnapFault),
 }
 
 impl Stop {
@@ -40,6 +43,7 @@ impl Stop {
         match self {
             Stop::Raised => 1,
             Stop::LibraryUnaccepted(_) => 3,
+            Stop::Unresumed(_) => 4,
             Stop::Steps(_) => 5,
             Stop::Memory => 6,
             Stop::LibraryFault(_) => 7,

@@ -13,6 +13,7 @@ use crate::differing::say_difference;
 use crate::ending::{Ending, Stop};
 use crate::freezing::{say_frozen, say_main};
 use crate::put::{gap, put, put_head, put_named, put_three, put_two};
+use crate::snapshots::say_snapshot;
 use crate::words::word_at;
 use bc_verify::{Rule, VerifyFault};
 use image_runs::Limit;
@@ -217,8 +218,8 @@ fn say_steps<E: Sink>(say: &mut E, count: u64) -> Result<(), Failed>
 }
 
 /// Says what kept a file or a source from being run to its end, if that wasn't said in the run.
-fn say_stop<E: Sink>(say: &mut E, stop: &Stop) -> Result<(), Failed>
-    ensures line { Puts (E.told say.old) (E.told say.new) (E.count say.old) (E.count say.new) (stop_line stop.now) result }
+fn say_stop<E: Sink>(say: &mut E, name: &str, stop: &Stop) -> Result<(), Failed>
+    ensures line { Puts (E.told say.old) (E.told say.new) (E.count say.old) (E.count say.new) (stop_line name.now stop.now) result }
     ensures said { is_stop_said stop.now ≡ true → say.new ≡ say.old }
 {
     match stop {
@@ -229,6 +230,7 @@ fn say_stop<E: Sink>(say: &mut E, stop: &Stop) -> Result<(), Failed>
         Stop::Raised | Stop::Memory => Ok(()),
         Stop::Steps(count) => say_steps(say, *count),
         Stop::Unsaved => put(say, b"mpy: snapshot TooBig\n"),
+        Stop::Unresumed(fault) => say_snapshot(say, name, *fault),
     }
 }
 
@@ -248,7 +250,7 @@ pub fn say_ending<E: Sink>(say: &mut E, name: &str, ending: &Ending) -> Result<(
         Ending::Unfrozen(fault) => say_frozen(say, name, fault),
         Ending::Unboarded(fault) => say_board(say, name, fault),
         Ending::Different(difference) => say_difference(say, name, difference),
-        Ending::Stopped(stop) => say_stop(say, stop),
+        Ending::Stopped(stop) => say_stop(say, name, stop),
         Ending::ReadFault => put_named(say, b"mpy: read fault", name.as_bytes()),
         Ending::WriteFault => put(say, b"mpy: write fault out\n"),
         Ending::Unwritten => put_named(say, b"mpy: write fault", name.as_bytes()),

@@ -1,5 +1,6 @@
 -- What the forms in memory hold, and which of their calls fail.
-use Rattle.std.specs.Prelude.{ℕ, ◌+◌, ◌-◌, ◌/◌, ◌^◌, min, Bool, List, [], ◌∷◌, map, take, length, Some, None, String, Vec, string_bytes, bytes_eq, if◌then◌else◌}
+use Rattle.std.specs.Prelude.{ℕ, ◌+◌, ◌-◌, ◌/◌, ◌^◌, min, Bool, List, [], ◌∷◌, map, take, length, Some, None, String, Vec}
+use Rattle.std.specs.Prelude.{string_bytes, bytes_eq, if◌then◌else◌}
 use Rattle.std.specs.declared.alloc.Global.{Global}
 use Rattle.mpy_io.specs.Files.{FileOf}
 

@@ -142,7 +142,9 @@ fn read_all<F: Read + Drop>(file: F, alloc: Global) -> Result<Vec<u8>, ReadFault
 /// Why a file isn't read that wasn't opened: it is absent also where a part of its path is no folder, where it is a folder itself, and
 /// where no file can have so long a name.
 fn opening_fault(kind: ErrorKind) -> ReadFault
-    ensures absent { (result ≡ ReadFault.Absent) ↔ ((kind ≡ ErrorKind.NotFound) ⊎ (kind ≡ ErrorKind.NotADirectory) ⊎ (kind ≡ ErrorKind.IsADirectory) ⊎ (kind ≡ ErrorKind.InvalidFilename)) }
+    ensures absent { (result ≡ ReadFault.Absent)
+        ↔ ((kind ≡ ErrorKind.NotFound) ⊎ (kind ≡ ErrorKind.NotADirectory) ⊎ (kind ≡ ErrorKind.IsADirectory)
+        ⊎ (kind ≡ ErrorKind.InvalidFilename)) }
     ensures no_memory { (result ≡ ReadFault.NoMemory) ↔ (kind ≡ ErrorKind.OutOfMemory) }
 {
     match kind {

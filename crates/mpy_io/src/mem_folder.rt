@@ -1,6 +1,7 @@
 //! A folder in memory, some of whose calls fail.
 
-ghost use Rattle.std.specs.Prelude.{◌≡◌, ◌≢◌, ◌⊎◌, ◌↔◌, ◌||◌, ◌≤◌, Some, not, length, option_map, Contains, IsTrue, IfOk, IsSomeAnd, OnOk, OnErr, IsOk, IsErr, IsErrOf, is_err, if◌then◌else◌};
+ghost use Rattle.std.specs.Prelude.{◌≡◌, ◌≢◌, ◌⊎◌, ◌↔◌, ◌||◌, ◌≤◌, Some, not, length, option_map, Contains, IsTrue, IfOk};
+ghost use Rattle.std.specs.Prelude.{IsSomeAnd, OnOk, OnErr, IsOk, IsErr, IsErrOf, is_err, if◌then◌else◌};
 ghost use Rattle.mpy_base.specs.declared.limits.TheConstants.{MAX_READ_BYTES};
 ghost use Rattle.mpy_io.specs.Count.{Counts, Rose};
 ghost use Rattle.mpy_io.specs.Files.{Reads, is_failed, Sets, BecomesFront, appended, AppendsFileFront};

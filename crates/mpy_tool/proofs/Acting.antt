@@ -6,7 +6,7 @@ use Rattle.mpy_io.specs.Files.{FileOf}
 use Rattle.image_open.specs.image_grammar.bc_library.Shelf.{Shelf, no_entries}
 use Rattle.meant_commands.specs.source_files.Sources.{stored}
 use Rattle.mpy_words.specs.declared.order.Command.{Command}
-use Rattle.mpy_words.specs.declared.order.Command.TheVariants.{Go, Check, CheckAs, Dump, Cross, Merge, Freeze, Migrate, Run, Board, Stress}
+use Rattle.mpy_words.specs.declared.order.Command.TheVariants.{Go, Check, CheckAs, Dump, Cross, Merge, Freeze, Migrate, Run, Resume, Board, Stress}
 use Rattle.mpy_words.specs.declared.order.Order.{Order}
 use Rattle.mpy_words.specs.Words.{Outcome, order_of, first_name, second_name, source_name, main_name, file_names, saved_name}
 use Rattle.board_command.specs.board_files.Files.{KeepsOthers}
@@ -17,9 +17,10 @@ use Rattle.meant_commands.specs.file_commands.CheckAs.{ChecksAs}
 use Rattle.meant_commands.specs.file_commands.Cross.{Crosses}
 use Rattle.meant_commands.specs.file_commands.Dump.{Dumps}
 use Rattle.meant_commands.specs.file_commands.Merge.{Merges}
-use Rattle.run_commands.specs.Ready.{GoLibrary, RunLibrary}
-use Rattle.run_commands.specs.Run.{EndsRun, room_of}
-use Rattle.run_commands.specs.Save.{EndsRunTo}
+use Rattle.meant_commands.specs.run_commands.Ready.{GoLibrary, RunLibrary}
+use Rattle.meant_commands.specs.run_commands.Run.{EndsRun, room_of}
+use Rattle.meant_commands.specs.run_commands.Save.{EndsRunTo}
+use Rattle.meant_commands.specs.run_commands.Resume.{EndsResume, ResumeLibrary}
 use Rattle.meant_commands.specs.GoMeant.{GoMeans}
 use Rattle.meant_commands.specs.Meant.{Libraries, RunMeans}
 use Rattle.meant_commands.proofs.Meaning.{MeantLaw, run_to_means}
@@ -28,11 +29,11 @@ use Rattle.meant_commands.specs.file_commands.Migrate.{Migrates}
 use Rattle.board_command.specs.command_files.Images.{HoldsImage}
 use Rattle.board_command.specs.command_files.Over.{EndsAtBase}
 use Rattle.board_command.specs.Boards.{Boards}
-use Rattle.run_commands.specs.Stress.{EndsStress}
+use Rattle.meant_commands.specs.run_commands.Stress.{EndsStress}
 use Rattle.mpy_tool.specs.Call.{Call, Orders, OrdersOne, OrdersTwo, Shows, ShowsPorts}
 use Rattle.mpy_tool.specs.Below.{Based, image_version}
-use Rattle.mpy_tool.specs.Doing.{Finishes, RunsOrSaves, ActsBy, ObeysBy}
-use Rattle.mpy_tool.specs.Order.{ChangesBy, ChangesSaved, calls_ports, makes_source, runs_library, save_by}
+use Rattle.mpy_tool.specs.Doing.{Finishes, RunsOrSaves, ResumesBy, ActsBy, ObeysBy}
+use Rattle.mpy_tool.specs.Order.{ChangesBy, ChangesSaved, calls_ports, makes_source, resumes_run, runs_library, save_by}
 use Rattle.mpy_tool.specs.Making.{StressMeans}
 use Rattle.mpy_tool.proofs.Stressing.{GoLaw, stress_means}
 use Rattle.mpy_tool.proofs.Ended.{checked, checked_as, dumped, crossed, merged, frozen, migrated, boarded}
@@ -58,6 +59,7 @@ same_changes words save Merge old new e = same_only old new (first_name words) e
 same_changes words save Freeze old new e = same_only old new (second_name words) e
 same_changes words save Migrate old new e = same_only old new (second_name words) e
 same_changes words save Run old new e = same_saved (saved_name words save) old new e
+same_changes words save Resume old new e = same_saved (saved_name words save) old new e
 same_changes words save Board old new e = same_others MAX_TASKS old new e
 same_changes words save Stress old new e = e
 
@@ -72,15 +74,31 @@ run_changes words save Merge old new e h = absurd cc
 run_changes words save Freeze old new e h = absurd cc
 run_changes words save Migrate old new e h = absurd cc
 run_changes words save Run old new e h = h
+run_changes words save Resume old new e h = absurd cc
 run_changes words save Board old new e h = absurd cc
 run_changes words save Stress old new e h = absurd cc
+
+-- what a command that goes on from a snapshot changes
+pub resume_changes : (words : List (List ℕ)) (save : Option ℕ) (command : Command) (old new : Option FileOf) → resumes_run command ≡ true → ChangesSaved (saved_name words save) old new → ChangesBy words save command old new
+resume_changes words save Go old new e h = absurd cc
+resume_changes words save Check old new e h = absurd cc
+resume_changes words save CheckAs old new e h = absurd cc
+resume_changes words save Dump old new e h = absurd cc
+resume_changes words save Cross old new e h = absurd cc
+resume_changes words save Merge old new e h = absurd cc
+resume_changes words save Freeze old new e h = absurd cc
+resume_changes words save Migrate old new e h = absurd cc
+resume_changes words save Run old new e h = absurd cc
+resume_changes words save Resume old new e h = h
+resume_changes words save Board old new e h = absurd cc
+resume_changes words save Stress old new e h = absurd cc
 
 -- by the command
 -- ==============
 
 -- what runs nothing calls no ports
-pub quiet : (command : Command) → runs_library command ≡ false → makes_source command ≡ false → calls_ports command ≡ false
-quiet command r m = rw r m
+pub quiet : (command : Command) → runs_library command ≡ false → makes_source command ≡ false → resumes_run command ≡ false → calls_ports command ≡ false
+quiet command r m s = rw r (rw m s)
 
 module _ (order : Order) (call : Call) where
   pub acts_run : (below : Shelf) (command : Command) → runs_library command ≡ true → RunsOrSaves order call below command → ActsBy order call below command
@@ -93,6 +111,7 @@ module _ (order : Order) (call : Call) where
   acts_run below Freeze e h = absurd cc
   acts_run below Migrate e h = absurd cc
   acts_run below Run e h = h
+  acts_run below Resume e h = absurd cc
   acts_run below Board e h = absurd cc
   acts_run below Stress e h = absurd cc
 
@@ -106,6 +125,7 @@ module _ (order : Order) (call : Call) where
   acts_do below Freeze e h = h
   acts_do below Migrate e h = h
   acts_do below Run e h = absurd cc
+  acts_do below Resume e h = absurd cc
   acts_do below Board e h = h
   acts_do below Stress e h = absurd cc
 
@@ -119,8 +139,23 @@ module _ (order : Order) (call : Call) where
   acts_make below Freeze e h = absurd cc
   acts_make below Migrate e h = absurd cc
   acts_make below Run e h = absurd cc
+  acts_make below Resume e h = absurd cc
   acts_make below Board e h = absurd cc
   acts_make below Stress e h = h
+
+  pub acts_resume : (below : Shelf) (command : Command) → resumes_run command ≡ true → ResumesBy order call below → ActsBy order call below command
+  acts_resume below Go e h = absurd cc
+  acts_resume below Check e h = absurd cc
+  acts_resume below CheckAs e h = absurd cc
+  acts_resume below Dump e h = absurd cc
+  acts_resume below Cross e h = absurd cc
+  acts_resume below Merge e h = absurd cc
+  acts_resume below Freeze e h = absurd cc
+  acts_resume below Migrate e h = absurd cc
+  acts_resume below Run e h = absurd cc
+  acts_resume below Resume e h = h
+  acts_resume below Board e h = absurd cc
+  acts_resume below Stress e h = absurd cc
 
   -- the call with these files and these faults of the folder before it
   abbrev from : (files : Option FileOf) → (faults : ℕ) → Call
@@ -234,6 +269,14 @@ module _ (order : Order) (call : Call) where
       ordered Run (λ o. Based call o.base (λ below.
       ShowsPorts call (EndsRunTo (saved_name call.words o.save) (RunLibrary below (main_name call.words o.main_name)) (room_of o) o.steps (first_name call.words)))) is
       (λ e. as_command Run e h)
+
+  pub resume_ordered : Ok order ≡ order_of call.words → Obeyed order.command
+      → OrdersTwo call Resume (λ o file snap. Based call o.base (λ below. ShowsPorts call (EndsResume (ResumeLibrary below) o.steps file snap call.words o.save)))
+  resume_ordered is h =
+      let file = first_name call.words in
+      let snap = second_name call.words in
+      ordered Resume (λ o. Based call o.base (λ below. ShowsPorts call (EndsResume (ResumeLibrary below) o.steps file snap call.words o.save))) is
+      (λ e. as_command Resume e h)
 
   pub board_ordered : Ok order ≡ order_of call.words → Obeyed order.command
       → OrdersTwo call Board (λ o image plan. Based call o.base (λ below. Shows call (EndsAt (Boards below image plan) call.words)))

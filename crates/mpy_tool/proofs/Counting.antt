@@ -2,16 +2,16 @@
 use Rattle.std.proofs.Common.{ℕ, List, Option, Some, None, inl, inr}
 use Rattle.image_open.specs.image_grammar.bc_library.Shelf.{Shelf, no_entries}
 use Rattle.mpy_words.specs.declared.order.Command.{Command}
-use Rattle.mpy_words.specs.declared.order.Command.TheVariants.{Go, Check, CheckAs, Dump, Cross, Merge, Freeze, Migrate, Run, Board, Stress}
+use Rattle.mpy_words.specs.declared.order.Command.TheVariants.{Go, Check, CheckAs, Dump, Cross, Merge, Freeze, Migrate, Run, Resume, Board, Stress}
 use Rattle.mpy_words.specs.declared.order.Order.{Order}
 use Rattle.mpy_words.specs.Words.{first_name, saved_name}
-use Rattle.run_commands.specs.Run.{room_of}
-use Rattle.run_commands.specs.Save.{EndsRunTo}
+use Rattle.meant_commands.specs.run_commands.Run.{room_of}
+use Rattle.meant_commands.specs.run_commands.Save.{EndsRunTo}
 use Rattle.mpy_endings.proofs.Statuses.{folder_stays, out_stays}
-use Rattle.run_commands.specs.Stress.{EndsStress}
+use Rattle.meant_commands.specs.run_commands.Stress.{EndsStress}
 use Rattle.mpy_tool.specs.Below.{Based}
 use Rattle.mpy_tool.specs.Call.{Call, LeavesCounts, ShowsPorts}
-use Rattle.mpy_tool.specs.Doing.{ActsBy, Finishes, LibraryBy, RunsBy, ObeysBy}
+use Rattle.mpy_tool.specs.Doing.{ActsBy, Finishes, LibraryBy, ResumesBy, RunsBy, ObeysBy}
 use Rattle.mpy_tool.specs.Order.{base_by}
 
 module _ (order : Order) (call : Call) (below : Shelf) where
@@ -37,6 +37,12 @@ module _ (order : Order) (call : Call) (below : Shelf) where
     out_stays h.ending call.status h.status_is unread unwritten call.old.out_faults call.new.out_faults h.out_counts,
   )
 
+  resume_stays : ResumesBy order call below → LeavesCounts call
+  resume_stays h unread unwritten = (
+    folder_stays h.ending call.status h.status_is unread unwritten call.old.folder_faults call.new.folder_faults h.folder_counts,
+    out_stays h.ending call.status h.status_is unread unwritten call.old.out_faults call.new.out_faults h.out_counts,
+  )
+
   stress_stays : ShowsPorts call (EndsStress order.seed order.count (room_of order) order.steps) → LeavesCounts call
   stress_stays (inl h) unread unwritten = (
     folder_stays h.goes.ending call.status h.goes.status_is unread unwritten call.old.folder_faults call.new.folder_faults h.goes.folder_counts,
@@ -58,6 +64,7 @@ module _ (order : Order) (call : Call) (below : Shelf) where
   acts_stay Freeze h = finish_stays Freeze h
   acts_stay Migrate h = finish_stays Migrate h
   acts_stay Run h = save_stays (saved_name call.words order.save) h
+  acts_stay Resume h = resume_stays h
   acts_stay Board h = finish_stays Board h
   acts_stay Stress h = stress_stays h
 

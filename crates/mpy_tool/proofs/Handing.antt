@@ -5,7 +5,7 @@ use Rattle.std.proofs.KnownBytes.{Appends-kept, Keeps-trans}
 use Rattle.mpy_io.specs.Files.{FileOf}
 use Rattle.image_open.specs.image_grammar.bc_library.Shelf.{Shelf}
 use Rattle.mpy_words.specs.declared.order.Command.{Command}
-use Rattle.mpy_words.specs.declared.order.Command.TheVariants.{Go, Check, CheckAs, Dump, Cross, Merge, Freeze, Migrate, Run, Board, Stress}
+use Rattle.mpy_words.specs.declared.order.Command.TheVariants.{Go, Check, CheckAs, Dump, Cross, Merge, Freeze, Migrate, Run, Resume, Board, Stress}
 use Rattle.mpy_words.specs.declared.order.Order.{Order}
 use Rattle.mpy_words.specs.Words.{first_name, second_name}
 use Rattle.mpy_endings.specs.declared.ending.Ending.{Ending}
@@ -33,6 +33,7 @@ module _ (order : Order) (words : List (List ℕ)) (below : Shelf) (old new : Op
   handed_on Freeze p = (p.0, Keeps-trans a b c p.1 q, p.2)
   handed_on Migrate p = (p.0, Keeps-trans a b c p.1 q, p.2)
   handed_on Run p = absurd p
+  handed_on Resume p = absurd p
   handed_on Stress p = absurd p
   handed_on Board p = flushed below (first_name words) (second_name words) old new a b c place q p
 
@@ -46,6 +47,7 @@ module _ (order : Order) (words : List (List ℕ)) (below : Shelf) (old new : Op
   held_back Freeze p = (p.0, Keeps-trans a b c p.1 q, p.2)
   held_back Migrate p = (p.0, Keeps-trans a b c p.1 q, p.2)
   held_back Run p = absurd p
+  held_back Resume p = absurd p
   held_back Stress p = absurd p
   held_back Board p = unflushed below (first_name words) (second_name words) old new a b c place q p
 
@@ -61,6 +63,7 @@ module _ (order : Order) (words : List (List ℕ)) (below : Shelf) (old new : Op
   not_stopped Freeze stop p = p.0
   not_stopped Migrate stop p = p.0
   not_stopped Run stop p = p
+  not_stopped Resume stop p = p
   not_stopped Stress stop p = p
   not_stopped Board stop p = p
 

@@ -5,14 +5,14 @@ use Rattle.mpy_io.specs.Ports.{PortView}
 use Rattle.mpy_endings.specs.image_runs.declared.fault.MainFault.TheVariants as mains
 use Rattle.mpy_endings.specs.declared.ending.Ending.{Ending}
 use Rattle.mpy_endings.specs.declared.ending.Ending.TheVariants.{Done, Unaccepted, Unread, Unverified, Unmerged, Unopened, Unfrozen, Unboarded, Different, Stopped, ReadFault, WriteFault, Unwritten, NoMemory, Absent}
-use Rattle.mpy_endings.specs.declared.ending.Stop.TheVariants.{Past, LibraryFault, LibraryUnaccepted, Raised, Memory, Steps, Unsaved}
+use Rattle.mpy_endings.specs.declared.ending.Stop.TheVariants.{Past, LibraryFault, LibraryUnaccepted, Raised, Memory, Steps, Unsaved, Unresumed}
 use Rattle.mpy_endings.specs.Ending.{status_of, IsRunStatus}
 use Rattle.mpy_endings.proofs.Statuses.{none_unsaved}
 use Rattle.board_command.specs.command_files.Outside.{Outside}
-use Rattle.run_commands.specs.Ready.{GoLibrary}
-use Rattle.run_commands.specs.Run.{EndsRun, IsUnloaded, Runs, sight_in}
+use Rattle.meant_commands.specs.run_commands.Ready.{GoLibrary}
+use Rattle.meant_commands.specs.run_commands.Run.{EndsRun, IsUnloaded, Runs, sight_in}
 use Rattle.meant_commands.specs.GoMeant.{GoMeans}
-use Rattle.run_commands.specs.Stress.{EndsStress, Ran, beside, stress_name}
+use Rattle.meant_commands.specs.run_commands.Stress.{EndsStress, Ran, beside, stress_name}
 use Rattle.mpy_tool.specs.Making.{MeansMade, StressMeans}
 
 -- the statuses of a run, and that of a sink that failed
@@ -48,6 +48,7 @@ unloaded_not (Stopped Raised) u h = absurd u
 unloaded_not (Stopped Memory) u h = absurd u
 unloaded_not (Stopped (Steps count)) u h = absurd u
 unloaded_not (Stopped Unsaved) u h = absurd u
+unloaded_not (Stopped (Unresumed fault)) u h = absurd u
 unloaded_not ReadFault u h = not_running 7 (λ e. absurd cc) (λ e. absurd cc) (λ e. absurd cc) (λ e. absurd cc) (λ e. absurd cc) h
 unloaded_not WriteFault u h = absurd u
 unloaded_not Unwritten u h = absurd u

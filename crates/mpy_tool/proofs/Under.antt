@@ -6,7 +6,7 @@ use Rattle.image_open.specs.image_grammar.bc_library.Shelf.{Shelf, names, no_ent
 use Rattle.image_open.specs.image_grammar.Base.{IsOpened, base_of}
 use Rattle.meant_commands.specs.image_freeze.Fronts.{MayLieOver}
 use Rattle.mpy_words.specs.declared.order.Command.{Command}
-use Rattle.mpy_words.specs.declared.order.Command.TheVariants.{Go, Check, CheckAs, Dump, Cross, Merge, Freeze, Migrate, Run, Board, Stress}
+use Rattle.mpy_words.specs.declared.order.Command.TheVariants.{Go, Check, CheckAs, Dump, Cross, Merge, Freeze, Migrate, Run, Resume, Board, Stress}
 use Rattle.mpy_tool.specs.Below.{MayLieBelow, image_version, library_below}
 use Rattle.mpy_tool.specs.Order.{base_by}
 
@@ -44,5 +44,6 @@ base_there Merge base at below e is = absurd cc
 base_there Freeze base at below e is = subst (MayLieBelow (Some below)) e is
 base_there Migrate base at below e is = absurd cc
 base_there Run base at below e is = subst (MayLieBelow (Some below)) e is
+base_there Resume base at below e is = subst (MayLieBelow (Some below)) e is
 base_there Board base at below e is = subst (MayLieBelow (Some below)) e is
 base_there Stress base at below e is = absurd cc

@@ -6,7 +6,7 @@ use Rattle.mpy_io.specs.Ports.{PortView}
 use Rattle.board_command.specs.command_files.Outside.{Outside}
 use Rattle.meant_commands.specs.GoMeant.{GoMeans}
 use Rattle.mpy_endings.specs.Ending.{IsRunStatus}
-use Rattle.run_commands.specs.Stress.{HasLibrary, Unprinted, beside, lines, stress_name}
+use Rattle.meant_commands.specs.run_commands.Stress.{HasLibrary, Unprinted, beside, lines, stress_name}
 
 -- The lines of the source of this seed and this count were printed, and behind them it did as the program of this source means.
 module _ (seed count : ℕ) (room : Room) (steps : ℕ) (old new : Outside) (ports_old ports_new : List PortView) (status : ℕ) where

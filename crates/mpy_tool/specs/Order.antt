@@ -4,7 +4,7 @@ use Rattle.std.specs.Io.KnownBytes.{Keeps}
 use Rattle.mpy_base.specs.declared.limits.TheConstants.{MAX_TASKS}
 use Rattle.mpy_io.specs.Files.{FileOf}
 use Rattle.mpy_words.specs.declared.order.Command.{Command}
-use Rattle.mpy_words.specs.declared.order.Command.TheVariants.{Go, Check, CheckAs, Dump, Cross, Merge, Freeze, Migrate, Run, Board, Stress}
+use Rattle.mpy_words.specs.declared.order.Command.TheVariants.{Go, Check, CheckAs, Dump, Cross, Merge, Freeze, Migrate, Run, Resume, Board, Stress}
 use Rattle.mpy_words.specs.declared.order.WordFault.{WordFault}
 use Rattle.mpy_words.specs.Words.{Outcome, first_name, saved_name, second_name}
 use Rattle.mpy_endings.specs.Line.{Says, words_line}
@@ -36,6 +36,7 @@ ChangesBy words save Merge old new = ChangesOnly old new (first_name words)
 ChangesBy words save Freeze old new = ChangesOnly old new (second_name words)
 ChangesBy words save Migrate old new = ChangesOnly old new (second_name words)
 ChangesBy words save Run old new = ChangesSaved (saved_name words save) old new
+ChangesBy words save Resume old new = ChangesSaved (saved_name words save) old new
 ChangesBy words save Board old new = KeepsOthers MAX_TASKS old new
 ChangesBy words save Stress old new = new ≡ old
 
@@ -55,6 +56,7 @@ runs_library Merge = false
 runs_library Freeze = false
 runs_library Migrate = false
 runs_library Run = true
+runs_library Resume = false
 runs_library Board = false
 runs_library Stress = false
 
@@ -69,12 +71,28 @@ makes_source Merge = false
 makes_source Freeze = false
 makes_source Migrate = false
 makes_source Run = false
+makes_source Resume = false
 makes_source Board = false
 makes_source Stress = true
 
+-- whether a command goes on from a snapshot
+abbrev pub resumes_run : Command → Bool
+resumes_run Go = false
+resumes_run Check = false
+resumes_run CheckAs = false
+resumes_run Dump = false
+resumes_run Cross = false
+resumes_run Merge = false
+resumes_run Freeze = false
+resumes_run Migrate = false
+resumes_run Run = false
+resumes_run Resume = true
+resumes_run Board = false
+resumes_run Stress = false
+
 -- whether a command may call ports
 abbrev pub calls_ports : Command → Bool
-calls_ports command = runs_library command || makes_source command
+calls_ports command = runs_library command || (makes_source command || resumes_run command)
 
 -- whether what words order may call ports; words of no order call none
 abbrev pub calls_ports_in : Outcome → Bool
@@ -92,6 +110,7 @@ stands_alone Merge = true
 stands_alone Freeze = false
 stands_alone Migrate = true
 stands_alone Run = false
+stands_alone Resume = false
 stands_alone Board = false
 stands_alone Stress = false
 
@@ -106,6 +125,7 @@ save_by Merge save = None
 save_by Freeze save = None
 save_by Migrate save = None
 save_by Run save = save
+save_by Resume save = save
 save_by Board save = None
 save_by Stress save = None
 
@@ -120,5 +140,6 @@ base_by Merge base = None
 base_by Freeze base = base
 base_by Migrate base = None
 base_by Run base = base
+base_by Resume base = base
 base_by Board base = base
 base_by Stress base = None

@@ -106,7 +106,7 @@ fn ran_alone<F: Folder, S: Sink>(
         }
         Command::Merge => merge_files(alloc, file_names(words), name, folder),
         Command::Migrate => Ended::of_two(migrate(alloc, name, word_at(words, 2), folder)),
-        Command::Go | Command::Freeze | Command::Run => unreachable!(),
+        Command::Go | Command::Freeze | Command::Run | Command::Resume => unreachable!(),
         Command::Board | Command::Stress => unreachable!(),
     }
 }
@@ -145,7 +145,7 @@ fn ran<F: Folder, S: Sink>(
             release(below);
             ran_alone(order, alloc, words, folder, out)
         }
-        Command::Go | Command::Run | Command::Stress => unreachable!(),
+        Command::Go | Command::Run | Command::Resume | Command::Stress => unreachable!(),
     }
 }
 

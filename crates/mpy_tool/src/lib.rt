@@ -4,6 +4,7 @@
 mod below;
 mod doing;
 mod outside;
+mod resuming;
 mod running;
 mod top;
 

@@ -11,11 +11,11 @@ ghost use Rattle.mpy_endings.specs.declared.ending.Ending.TheVariants.{Stopped};
 ghost use Rattle.mpy_endings.specs.declared.ending.Stop.TheVariants.{Unsaved};
 ghost use Rattle.mpy_endings.specs.Ending.{IsRunStatus, is_folder_fault, is_out_fault, is_said, status_of};
 ghost use Rattle.mpy_endings.specs.Line.{Says};
-ghost use Rattle.run_commands.specs.library_runs.Runs.{sight};
+ghost use Rattle.meant_commands.specs.run_commands.library_runs.Runs.{sight};
 ghost use Rattle.board_command.specs.command_files.Opened.{failed_in};
-ghost use Rattle.run_commands.specs.Run.{IsUnloaded, room_of};
-ghost use Rattle.run_commands.specs.Save.{RunsTo, is_unwritten, place_to};
-ghost use Rattle.run_commands.specs.Ready.{RunLibrary};
+ghost use Rattle.meant_commands.specs.run_commands.Run.{IsUnloaded, room_of};
+ghost use Rattle.meant_commands.specs.run_commands.Save.{RunsTo, is_unwritten, place_to};
+ghost use Rattle.meant_commands.specs.run_commands.Ready.{RunLibrary};
 ghost use Rattle.mpy_tool.specs.Below.{MayLieBelow, library_below};
 ghost use Rattle.mpy_tool.specs.Call.{call_of, texts};
 ghost use Rattle.mpy_tool.specs.Doing.{LibraryBy, RunsOrSaves};
@@ -24,11 +24,11 @@ ghost use Rattle.mpy_tool.specs.Order.{ChangesBy, runs_library, save_by};
 use crate::below::{or_nothing, release};
 use crate::outside::Outside;
 use bc_library::Library;
+use meant_commands::{Ready, place_of, run_loaded, run_ready, run_saving, source_ready};
 use mpy_base::{NoMemory, Room};
 use mpy_endings::{Ended, Ending, main_name, say_ending, word_at};
 use mpy_io::{Folder, Port, Sink};
 use mpy_words::{Command, Order};
-use run_commands::{Ready, run_loaded, run_ready, run_saving, source_ready};
 use std::alloc::Global;
 
 /// The library of the file of this name, an image over the library of a base, if one is ordered, or what keeps it from being run.
@@ -84,7 +84,7 @@ fn library_of<F: Folder>(
         }
         Command::Check | Command::CheckAs | Command::Dump => unreachable!(),
         Command::Cross | Command::Merge => unreachable!(),
-        Command::Freeze | Command::Migrate => unreachable!(),
+        Command::Freeze | Command::Migrate | Command::Resume => unreachable!(),
         Command::Board | Command::Stress => unreachable!(),
     }
 }
@@ -94,20 +94,10 @@ fn save_place(order: Order) -> Option<usize>
     ensures { result ≡ save_by order.command order.save }
 {
     match order.command {
-        Command::Run => order.save,
+        Command::Run | Command::Resume => order.save,
         Command::Go | Command::Check | Command::CheckAs | Command::Dump => None,
         Command::Cross | Command::Merge | Command::Freeze => None,
         Command::Migrate | Command::Board | Command::Stress => None,
-    }
-}
-
-/// The place of the word that the line of a run names which saves to the word at a place.
-fn place_of(at: usize, ending: &Ending) -> usize
-    ensures { result ≡ place_to (Some at) ending.now }
-{
-    match ending {
-        Ending::Unwritten => at,
-        _ => 1,
     }
 }
 
@@ -153,7 +143,7 @@ fn run_to<F: Folder, S: Sink, P: Port, E: Sink>(
                 &mut outside.ports,
                 &mut outside.say,
             );
-            let place = place_of(at, &ending);
+            let place = place_of(save, &ending);
             Ended { ending, place }
         }
         None => Ended {

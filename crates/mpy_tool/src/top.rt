@@ -2,7 +2,7 @@
 
 ghost use Rattle.std.specs.Prelude.{◌≡◌, ◌≤◌, [], false, IfErr};
 ghost use Rattle.mpy_words.specs.declared.order.Command.TheVariants as commands;
-ghost use Rattle.mpy_words.specs.Given.{most_count};
+ghost use Rattle.mpy_words.specs.Given.{most_count, most_steps};
 ghost use Rattle.mpy_words.specs.Words.{order_of, source_name, main_name, file_names, saved_name};
 ghost use Rattle.meant_commands.specs.source_files.Sources.{stored};
 ghost use Rattle.mpy_endings.specs.Ending.{IsRunStatus, status_of};
@@ -13,33 +13,34 @@ ghost use Rattle.meant_commands.specs.file_commands.CheckAs.{ChecksAs};
 ghost use Rattle.meant_commands.specs.file_commands.Cross.{Crosses};
 ghost use Rattle.meant_commands.specs.file_commands.Dump.{Dumps};
 ghost use Rattle.meant_commands.specs.file_commands.Merge.{Merges};
-ghost use Rattle.run_commands.specs.Ready.{GoLibrary, RunLibrary};
-ghost use Rattle.run_commands.specs.Run.{EndsRun, room_of};
-ghost use Rattle.run_commands.specs.Save.{EndsRunTo};
+ghost use Rattle.meant_commands.specs.run_commands.Ready.{GoLibrary, RunLibrary};
+ghost use Rattle.meant_commands.specs.run_commands.Run.{EndsRun, room_of};
+ghost use Rattle.meant_commands.specs.run_commands.Save.{EndsRunTo};
+ghost use Rattle.meant_commands.specs.run_commands.Resume.{EndsResume, ResumeLibrary};
 ghost use Rattle.meant_commands.specs.GoMeant.{GoMeans};
 ghost use Rattle.meant_commands.specs.Meant.{RunMeans};
 ghost use Rattle.meant_commands.specs.file_commands.Freeze.{Freezes};
 ghost use Rattle.meant_commands.specs.file_commands.Migrate.{Migrates};
 ghost use Rattle.board_command.specs.Boards.{Boards};
-ghost use Rattle.run_commands.specs.Stress.{EndsStress};
+ghost use Rattle.meant_commands.specs.run_commands.Stress.{EndsStress};
 ghost use Rattle.mpy_tool.specs.Below.{Based, MayLieBelow, image_version, library_below};
 ghost use Rattle.mpy_tool.specs.Call.{call_of, texts, LeavesCounts, Orders, OrdersOne, OrdersTwo, Shows, ShowsPorts};
 ghost use Rattle.mpy_tool.specs.Doing.{ActsBy, ObeysBy};
 ghost use Rattle.mpy_tool.specs.Making.{StressMeans};
-ghost use Rattle.mpy_tool.specs.Order.{RefusesWords, base_by, calls_ports, calls_ports_in, makes_source, runs_library, ChangesBy, ChangesIn};
+ghost use Rattle.mpy_tool.specs.Order.{RefusesWords, base_by, calls_ports, calls_ports_in, makes_source, resumes_run, runs_library, ChangesBy, ChangesIn};
 
 use crate::below::release;
 use crate::doing::do_order;
 use crate::outside::Outside;
+use crate::resuming::resume_order;
 use crate::running::run_order;
 use bc_library::Library;
 use board_command::{meant_law, open_base};
-use meant_commands::go_means_law;
+use meant_commands::{go_means_law, stress};
 use mpy_base::Room;
 use mpy_endings::{Ending, say_ending, say_words, word_at};
 use mpy_io::{Folder, Port, Sink};
 use mpy_words::{Command, Order, order_of};
-use run_commands::stress;
 use std::alloc::Global;
 
 /// The status of words that are of no order.
@@ -52,7 +53,7 @@ fn runs(command: Command) -> bool
     match command {
         Command::Go | Command::Run => true,
         Command::Check | Command::CheckAs | Command::Dump => false,
-        Command::Cross | Command::Merge => false,
+        Command::Cross | Command::Merge | Command::Resume => false,
         Command::Freeze | Command::Migrate | Command::Board | Command::Stress => false,
     }
 }
@@ -63,7 +64,20 @@ fn makes(command: Command) -> bool
 {
     match command {
         Command::Stress => true,
-        Command::Go | Command::Run => false,
+        Command::Go | Command::Run | Command::Resume => false,
+        Command::Check | Command::CheckAs | Command::Dump => false,
+        Command::Cross | Command::Merge => false,
+        Command::Freeze | Command::Migrate | Command::Board => false,
+    }
+}
+
+/// Does a command go on from a snapshot?
+fn resumes(command: Command) -> bool
+    ensures { result ≡ resumes_run command }
+{
+    match command {
+        Command::Resume => true,
+        Command::Go | Command::Run | Command::Stress => false,
         Command::Check | Command::CheckAs | Command::Dump => false,
         Command::Cross | Command::Merge => false,
         Command::Freeze | Command::Migrate | Command::Board => false,
@@ -75,7 +89,7 @@ fn base_place(order: Order) -> Option<usize>
     ensures { result ≡ base_by order.command order.base }
 {
     match order.command {
-        Command::Freeze | Command::Run | Command::Board => order.base,
+        Command::Freeze | Command::Run | Command::Resume | Command::Board => order.base,
         Command::Go | Command::Check | Command::CheckAs | Command::Dump => None,
         Command::Cross => None,
         Command::Merge | Command::Migrate | Command::Stress => None,
@@ -123,6 +137,7 @@ fn act<F: Folder, S: Sink, P: Port, E: Sink>(
 ) -> u8
     requires level { order.level ≤ 3 }
     requires count { order.count ≤ most_count }
+    requires steps { order.steps ≤ most_steps }
     requires below { MayLieBelow below order.base }
     ensures ended { let call = call_of F.Folder S.Sink P.Port E.Sink words.now outside.old outside.new result in
         ActsBy order call (library_below below) order.command }
@@ -136,6 +151,9 @@ fn act<F: Folder, S: Sink, P: Port, E: Sink>(
     }
     if makes(order.command) {
         return make(order, alloc, below, outside);
+    }
+    if resumes(order.command) {
+        return resume_order(order, alloc, words, below, outside);
     }
     do_order(order, alloc, words, below, outside)
 }
@@ -158,6 +176,7 @@ fn obey<F: Folder, S: Sink, P: Port, E: Sink>(
 ) -> u8
     requires level { order.level ≤ 3 }
     requires count { order.count ≤ most_count }
+    requires steps { order.steps ≤ most_steps }
     ensures ended { let call = call_of F.Folder S.Sink P.Port E.Sink words.now outside.old outside.new result in
         ObeysBy order call order.command }
     ensures ports { calls_ports order.command ≡ false → outside.new.ports ≡ outside.old.ports }
@@ -233,6 +252,13 @@ pub fn mpy<F: Folder, S: Sink, P: Port, E: Sink>(
         let main = main_name call.words order.main_name in
         ShowsPorts call (EndsRunTo (saved_name call.words order.save) (RunLibrary below main) (room_of order) order.steps file))) }
 
+    // resume FILE SNAP: the machine of the snapshot SNAP, a state of the library of FILE, goes on for the steps that are ordered, in its
+    // own room, and its output is printed; or what kept it from that is said. FILE and the base are as those of run, and so is the file
+    // to which the state is saved where all the steps are taken.
+    ensures resume { let call = call_of F.Folder S.Sink P.Port E.Sink words.now outside.old outside.new result in
+        OrdersTwo call commands.Resume (λ order file snap. Based call order.base (λ below.
+        ShowsPorts call (EndsResume (ResumeLibrary below) order.steps file snap call.words order.save))) }
+
     // board IMAGE PLAN: the tasks of the plan are run by turns on the image, over the base that is ordered, if one is; the output of
     // each goes to its file, and a line for each is printed; or what kept them from that is said.
     ensures board { let call = call_of F.Folder S.Sink P.Port E.Sink words.now outside.old outside.new result in
@@ -260,7 +286,7 @@ pub fn mpy<F: Folder, S: Sink, P: Port, E: Sink>(
         Orders call commands.Stress (λ order.
         ShowsPorts call (StressMeans order.seed order.count (room_of order) order.steps)) }
 
-    // Only go, run and stress call ports.
+    // Only go, run, resume and stress call ports.
     ensures ports { calls_ports_in (order_of (texts words.now)) ≡ false → outside.new.ports ≡ outside.old.ports }
 
     // With a status other than 7 and 8 no call of the folder and of the output's sink failed.
@@ -271,7 +297,7 @@ pub fn mpy<F: Folder, S: Sink, P: Port, E: Sink>(
     ensures flushed { IsRunStatus result → S.held outside.new.out ≡ [] }
     ensures handed_on { result ≡ 13 → S.held outside.new.out ≡ [] }
 
-    // No command but cross, merge, freeze, migrate, board and a run that saves its state changes a file, and these none but FILE, OUT,
+    // No command but cross, merge, freeze, migrate, board and a run that saves its state, also one that went on, changes a file, and these none but FILE, OUT,
     // SNAP and the files of the tasks.
     ensures files { let call = call_of F.Folder S.Sink P.Port E.Sink words.now outside.old outside.new result in
         ChangesIn call.words (order_of call.words) call.old.files call.new.files }

@@ -1,8 +1,8 @@
 -- The orders and the first faults of small words.
 use Rattle.std.proofs.Common.{◌≡◌, ℕ, [], ◌∷◌, Option, Some, None, Ok, Err, codes, refl}
 use Rattle.mpy_words.specs.declared.order.Command.{Command}
-use Rattle.mpy_words.specs.declared.order.Command.TheVariants.{Go, CheckAs, Cross, Merge, Freeze, Migrate, Run, Board, Stress}
-use Rattle.mpy_words.specs.declared.order.Named.TheVariants.{Source, File, Input, Output, Manifest, Plan, Count}
+use Rattle.mpy_words.specs.declared.order.Command.TheVariants.{Go, CheckAs, Cross, Merge, Freeze, Migrate, Run, Resume, Board, Stress}
+use Rattle.mpy_words.specs.declared.order.Named.TheVariants.{Source, File, Input, Output, Manifest, Plan, Snapshot, Count}
 use Rattle.mpy_words.specs.declared.order.Setting.TheVariants.{Level, StoredName, MainName, Base, Save, Cells, Steps}
 use Rattle.mpy_words.specs.declared.order.WordFault.TheVariants.{NoCommand, Unknown, MissingName, MissingValue, BadNumber, Twice}
 use Rattle.mpy_words.specs.Number.{value_of}
@@ -323,3 +323,29 @@ saves_to_none = refl
 only_runs_save : order_of (codes "go" ∷ codes "a.py" ∷ codes "--save" ∷ codes "s.bin" ∷ []) ≡ Err (Unknown 2)
 unfolding settings named past_files value_of
 only_runs_save = refl
+
+-- the state from which a run goes on
+resume_alone : order_of (codes "resume" ∷ []) ≡ Err (MissingName File)
+unfolding settings named past_files value_of
+resume_alone = refl
+
+resume_one_name : order_of (codes "resume" ∷ codes "a.mpy" ∷ codes "--steps" ∷ codes "1" ∷ []) ≡ Err (MissingName Snapshot)
+unfolding settings named past_files value_of
+resume_one_name = refl
+
+resumes : order_of (codes "resume" ∷ codes "a.mpy" ∷ codes "s.bin" ∷ codes "--save" ∷ codes "t.bin" ∷ codes "--base" ∷ codes "b.img" ∷ codes "--steps" ∷ codes "7" ∷ [])
+    ≡ Ok (record { command = Resume; seed = 0; count = 0; level = 0; stored_name = None; main_name = None; base = Some 6; save = Some 4; cells = 65536; bytes = 262144; steps = 7 })
+unfolding settings named past_files value_of
+resumes = refl
+
+no_room_of_resume : order_of (codes "resume" ∷ codes "a.mpy" ∷ codes "s.bin" ∷ codes "--cells" ∷ codes "9" ∷ []) ≡ Err (Unknown 3)
+unfolding settings named past_files value_of
+no_room_of_resume = refl
+
+no_main_of_resume : order_of (codes "resume" ∷ codes "a.mpy" ∷ codes "-m" ∷ codes "a" ∷ []) ≡ Err (Unknown 2)
+unfolding settings named past_files value_of
+no_main_of_resume = refl
+
+resume_surplus : order_of (codes "resume" ∷ codes "a.mpy" ∷ codes "s.bin" ∷ codes "t.bin" ∷ []) ≡ Err (Unknown 3)
+unfolding settings named past_files value_of
+resume_surplus = refl

@@ -1,9 +1,9 @@
 -- The commands, the words that each names, and its options.
 use Rattle.std.specs.Prelude.{ℕ, Bool, true, false, List, [], ◌∷◌, Option, Some, None, codes, bytes_eq, if◌then◌else◌}
 use Rattle.mpy_words.specs.declared.order.Command.{Command}
-use Rattle.mpy_words.specs.declared.order.Command.TheVariants.{Go, Check, CheckAs, Dump, Cross, Merge, Freeze, Migrate, Run, Board, Stress}
+use Rattle.mpy_words.specs.declared.order.Command.TheVariants.{Go, Check, CheckAs, Dump, Cross, Merge, Freeze, Migrate, Run, Resume, Board, Stress}
 use Rattle.mpy_words.specs.declared.order.Named.{Named}
-use Rattle.mpy_words.specs.declared.order.Named.TheVariants.{Source, File, Input, Output, Manifest, Image, Plan, Seed, Count}
+use Rattle.mpy_words.specs.declared.order.Named.TheVariants.{Source, File, Input, Output, Manifest, Image, Plan, Snapshot, Seed, Count}
 use Rattle.mpy_words.specs.declared.order.Setting.{Setting}
 use Rattle.mpy_words.specs.declared.order.Setting.TheVariants.{Level, StoredName, MainName, Base, Save, Cells, Bytes, Steps}
 
@@ -16,6 +16,7 @@ name_of Output = codes "OUT"
 name_of Manifest = codes "MANIFEST"
 name_of Image = codes "IMAGE"
 name_of Plan = codes "PLAN"
+name_of Snapshot = codes "SNAP"
 name_of Seed = codes "SEED"
 name_of Count = codes "COUNT"
 
@@ -41,8 +42,9 @@ command_of word =
     else (if bytes_eq word (codes "freeze") then Some Freeze
     else (if bytes_eq word (codes "migrate") then Some Migrate
     else (if bytes_eq word (codes "run") then Some Run
+    else (if bytes_eq word (codes "resume") then Some Resume
     else (if bytes_eq word (codes "board") then Some Board
-    else (if bytes_eq word (codes "stress") then Some Stress else None)))))))))
+    else (if bytes_eq word (codes "stress") then Some Stress else None))))))))))
 
 -- the words that stand behind a command
 abbrev pub names_of : Command → List Named
@@ -55,6 +57,7 @@ names_of Merge = Output ∷ []
 names_of Freeze = Manifest ∷ Output ∷ []
 names_of Migrate = Input ∷ Output ∷ []
 names_of Run = File ∷ []
+names_of Resume = File ∷ Snapshot ∷ []
 names_of Board = Image ∷ Plan ∷ []
 names_of Stress = Seed ∷ Count ∷ []
 
@@ -69,6 +72,7 @@ takes_files Merge = true
 takes_files Freeze = false
 takes_files Migrate = false
 takes_files Run = false
+takes_files Resume = false
 takes_files Board = false
 takes_files Stress = false
 
@@ -109,6 +113,9 @@ setting_of Run word =
     if bytes_eq word (codes "-m") then Some MainName
     else (if bytes_eq word (codes "--base") then Some Base
     else (if bytes_eq word (codes "--save") then Some Save else run_setting_of word))
+setting_of Resume word =
+    if bytes_eq word (codes "--save") then Some Save
+    else (if bytes_eq word (codes "--steps") then Some Steps else base_setting_of word)
 setting_of Cross word =
     if bytes_eq word (codes "-O") then Some Level
     else (if bytes_eq word (codes "-s") then Some StoredName else None)

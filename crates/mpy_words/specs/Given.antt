@@ -2,7 +2,7 @@
 use Rattle.std.specs.Prelude.{ℕ, ◌≤◌, ◌<◌, Bool, List, Option, Some, None, IfSome, is_some, option_map, unwrap_or}
 use Rattle.mpy_words.specs.declared.order.Command.{Command}
 use Rattle.mpy_words.specs.declared.order.Named.{Named}
-use Rattle.mpy_words.specs.declared.order.Named.TheVariants.{Source, File, Input, Output, Manifest, Image, Plan, Seed, Count}
+use Rattle.mpy_words.specs.declared.order.Named.TheVariants.{Source, File, Input, Output, Manifest, Image, Plan, Snapshot, Seed, Count}
 use Rattle.mpy_words.specs.declared.order.Setting.{Setting}
 use Rattle.mpy_words.specs.declared.order.Setting.TheVariants.{Level, StoredName, MainName, Base, Save, Cells, Bytes, Steps}
 use Rattle.mpy_words.specs.declared.order.Order.{Order}
@@ -11,7 +11,18 @@ use Rattle.mpy_words.specs.Number.{number_of}
 
 -- no option was given
 abbrev pub none_given : Given
-none_given = record { seed = None; count = None; level = None; stored_name = None; main_name = None; base = None; save = None; cells = None; bytes = None; steps = None }
+none_given = record {
+  seed = None;
+  count = None;
+  level = None;
+  stored_name = None;
+  main_name = None;
+  base = None;
+  save = None;
+  cells = None;
+  bytes = None;
+  steps = None;
+}
 
 -- was the option given?
 abbrev pub is_given : Given → Setting → Bool
@@ -52,6 +63,7 @@ with_name given Output word = Some given
 with_name given Manifest word = Some given
 with_name given Image word = Some given
 with_name given Plan word = Some given
+with_name given Snapshot word = Some given
 with_name given Seed word = option_map (λ seed. record given { seed = Some seed }) (number_of most_seed word)
 with_name given Count word = option_map (λ count. record given { count = Some count }) (number_of most_count word)
 

@@ -87,7 +87,7 @@ impl Given {
     {
         match named {
             Named::Source | Named::File | Named::Input | Named::Output => Some(self),
-            Named::Manifest | Named::Image | Named::Plan => Some(self),
+            Named::Manifest | Named::Image | Named::Plan | Named::Snapshot => Some(self),
             Named::Seed => match number(MAX_SEED, word) {
                 Some(seed) => Some(Given {
                     seed: Some(seed as u32),

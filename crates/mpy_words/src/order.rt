@@ -24,6 +24,8 @@ pub enum Command {
     Migrate,
     /// `run FILE`
     Run,
+    /// `resume FILE SNAP`
+    Resume,
     /// `board IMAGE PLAN`
     Board,
     /// `stress SEED COUNT`
@@ -43,6 +45,8 @@ pub enum Named {
     Image,
     /// The plan of a board.
     Plan,
+    /// The snapshot from which a run goes on.
+    Snapshot,
     /// The number from which a made source draws its keys and values.
     Seed,
     /// How many assignments it has.
@@ -126,6 +130,7 @@ impl Named {
             Named::Manifest => "MANIFEST",
             Named::Image => "IMAGE",
             Named::Plan => "PLAN",
+            Named::Snapshot => "SNAP",
             Named::Seed => "SEED",
             Named::Count => "COUNT",
         }

@@ -20,6 +20,7 @@ fn command(word: &str) -> Option<Command>
         "freeze" => Some(Command::Freeze),
         "migrate" => Some(Command::Migrate),
         "run" => Some(Command::Run),
+        "resume" => Some(Command::Resume),
         "board" => Some(Command::Board),
         "stress" => Some(Command::Stress),
         _ => None,
@@ -57,9 +58,10 @@ fn setting(command: Command, word: &str) -> Option<Setting>
         Command::Cross if word == "-s" => Some(Setting::StoredName),
         Command::Run if word == "-m" => Some(Setting::MainName),
         Command::Run if word == "--base" => Some(Setting::Base),
-        Command::Run if word == "--save" => Some(Setting::Save),
+        Command::Run | Command::Resume if word == "--save" => Some(Setting::Save),
+        Command::Resume if word == "--steps" => Some(Setting::Steps),
         Command::Go | Command::Run => run_setting(word),
-        Command::Freeze | Command::Board => base_setting(word),
+        Command::Resume | Command::Freeze | Command::Board => base_setting(word),
         _ => None,
     }
 }
@@ -71,6 +73,7 @@ fn names(command: Command) -> &'static [Named]
     match command {
         Command::Go => &[Named::Source],
         Command::Check | Command::Dump | Command::Run => &[Named::File],
+        Command::Resume => &[Named::File, Named::Snapshot],
         Command::CheckAs | Command::Cross => &[Named::Source, Named::File],
         Command::Merge => &[Named::Output],
         Command::Freeze => &[Named::Manifest, Named::Output],
@@ -96,8 +99,8 @@ fn takes_files(command: Command) -> bool
     match command {
         Command::Go | Command::Check | Command::CheckAs | Command::Dump | Command::Cross => false,
         Command::Merge => true,
-        Command::Freeze | Command::Migrate | Command::Run | Command::Board => false,
-        Command::Stress => false,
+        Command::Freeze | Command::Migrate | Command::Run | Command::Resume => false,
+        Command::Board | Command::Stress => false,
     }
 }
 

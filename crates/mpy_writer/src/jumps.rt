@@ -1,6 +1,7 @@
 //! Items that name other items by their positions.
 
-ghost use Rattle.std.specs.Prelude.{◌≡◌, ◌↔◌, ◌+◌, ◌*◌, ◌<◌, ◌≤◌, ◌++◌, length, slice_index, flat_map, All, false, true, pos, ◌+ℤ◌, ◌-ℤ◌, ◌≤ℤ◌, ◌<ℤ◌, IsTrue, OnOk};
+ghost use Rattle.std.specs.Prelude.{◌≡◌, ◌↔◌, ◌+◌, ◌*◌, ◌<◌, ◌≤◌, ◌++◌, length, slice_index, flat_map, All, false, true, pos};
+ghost use Rattle.std.specs.Prelude.{◌+ℤ◌, ◌-ℤ◌, ◌≤ℤ◌, ◌<ℤ◌, IsTrue, OnOk};
 ghost use Rattle.mpy_tree.specs.bc_ops.Code.{spelling, IsEncodable};
 ghost use Rattle.mpy_tree.specs.bc_ops.Offset as offsets;
 ghost use Rattle.bc_labels.specs.Places as places;

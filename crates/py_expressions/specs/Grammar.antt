@@ -79,7 +79,8 @@ mutual
   pub data Arguments : List (List ℕ) → Type 0 where
     no_argument : {names : List (List ℕ)} → Arguments names
     positional : {names : List (List ℕ)} → names ≡ [] → Test → BehindArgument names → Arguments names
-    keyword : {names : List (List ℕ)} → Place → (text : List ℕ) → is_new text names ≡ true → Place → Test → BehindArgument (names ++ text ∷ []) → Arguments names
+    keyword : {names : List (List ℕ)} → Place → (text : List ℕ) → is_new text names ≡ true → Place → Test
+        → BehindArgument (names ++ text ∷ []) → Arguments names
 
   -- nothing, or a comma and what is left of the arguments
   pub data BehindArgument : List (List ℕ) → Type 0 where

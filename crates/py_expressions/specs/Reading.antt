@@ -429,7 +429,8 @@ module _ (inner : Rule → Parser Expr) where
   -- ---- tests
 
   -- the comparison that was found with its right operand, and what follows; or those that were found before
-  abbrev pub comparisons_by : (List (CompareOp × Expr) → Parser (List (CompareOp × Expr))) → List (CompareOp × Expr) → Option CompareOp → Parser (List (CompareOp × Expr))
+  abbrev pub comparisons_by : (List (CompareOp × Expr) → Parser (List (CompareOp × Expr))) → List (CompareOp × Expr) → Option CompareOp
+      → Parser (List (CompareOp × Expr))
   comparisons_by go found None = pure found
   comparisons_by go found (Some how) = do
     right ← sum top_level

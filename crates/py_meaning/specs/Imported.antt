@@ -2,7 +2,9 @@
 use Rattle.std.specs.Prelude.{ℕ, Bool, not, List, [], ◌∷◌, ◌++◌, map, nat_eq, if◌then◌else◌}
 use Rattle.std.specs.List.{list_all}
 use Rattle.py_scopes.specs.py_tree.declared.stmt.Alias.{Alias}
-use Rattle.py_meaning.specs.Tree.{Name, Stmt, Do, Assign, AugName, AugAttr, AugIndex, Delete, Pass, Break, Continue, ReturnNone, Return, Reraise, Raise, Assert, AssertWith, Import, From, If, While, For, Try, Finally, TryFinally, Def, Block, End, Next, Branches, Else, Case, Handlers, NoHandler, Any, On, OnAs}
+use Rattle.py_meaning.specs.Tree.{Name, Stmt, Do, Assign, AugName, AugAttr, AugIndex, Delete, Pass, Break, Continue, ReturnNone}
+use Rattle.py_meaning.specs.Tree.{Return, Reraise, Raise, Assert, AssertWith, Import, From, If, While, For, Try, Finally}
+use Rattle.py_meaning.specs.Tree.{TryFinally, Def, Block, End, Next, Branches, Else, Case, Handlers, NoHandler, Any, On, OnAs}
 
 -- the names of modules in text order, functions' texts among them: whole, as they stand
 abbrev mutual

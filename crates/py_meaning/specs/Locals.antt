@@ -2,7 +2,10 @@
 use Rattle.std.specs.Prelude.{not, List, [], ◌∷◌, ◌++◌, filter, map}
 use Rattle.py_scopes.specs.Names.{has, firsts}
 use Rattle.py_scopes.specs.Events.{bound_by}
-use Rattle.py_meaning.specs.Tree.{Name, Target, ToName, ToAttr, ToIndex, ToEach, Targets, Only, Then, Stmt, Do, Assign, AugName, AugAttr, AugIndex, Delete, Pass, Break, Continue, ReturnNone, Return, Reraise, Raise, Assert, AssertWith, Import, From, If, While, For, Try, Finally, TryFinally, Def, Block, End, Next, Branches, Else, Case, Handlers, NoHandler, Any, On, OnAs, Function}
+use Rattle.py_meaning.specs.Tree.{Name, Target, ToName, ToAttr, ToIndex, ToEach, Targets, Only, Then, Stmt, Do, Assign, AugName}
+use Rattle.py_meaning.specs.Tree.{AugAttr, AugIndex, Delete, Pass, Break, Continue, ReturnNone, Return, Reraise, Raise, Assert}
+use Rattle.py_meaning.specs.Tree.{AssertWith, Import, From, If, While, For, Try, Finally, TryFinally, Def, Block, End, Next}
+use Rattle.py_meaning.specs.Tree.{Branches, Else, Case, Handlers, NoHandler, Any, On, OnAs, Function}
 
 -- the names that a store to a target binds
 abbrev mutual

@@ -1,6 +1,8 @@
 -- Words that leave a loop or a function, in their places.
 use Rattle.std.specs.Prelude.{◌≡◌, Bool, true, false}
-use Rattle.py_meaning.specs.Tree.{Stmt, Do, Assign, AugName, AugAttr, AugIndex, Delete, Pass, Break, Continue, ReturnNone, Return, Reraise, Raise, Assert, AssertWith, Import, From, If, While, For, Try, Finally, TryFinally, Def, Block, End, Next, Branches, Else, Case, Handlers, NoHandler, Any, On, OnAs}
+use Rattle.py_meaning.specs.Tree.{Stmt, Do, Assign, AugName, AugAttr, AugIndex, Delete, Pass, Break, Continue, ReturnNone, Return}
+use Rattle.py_meaning.specs.Tree.{Reraise, Raise, Assert, AssertWith, Import, From, If, While, For, Try, Finally, TryFinally, Def}
+use Rattle.py_meaning.specs.Tree.{Block, End, Next, Branches, Else, Case, Handlers, NoHandler, Any, On, OnAs}
 
 -- within a function or not, and within a loop of the same text or not: `break` and `continue` stand in a loop, and
 -- `return` in a function

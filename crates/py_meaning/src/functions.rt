@@ -36,9 +36,11 @@ pub fn numbers_law()
 
 /// In a faultless tree the first slots of a function are those of its parameters.
 pub fn params_law()
-    ensures first { (tree : Module) → IsFormed tree → IsFaultless tree → (source : Source) (base : ℕ) → source.body ≡ plain_tree tree → source.locals ≡ slots_of tree
+    ensures first { (tree : Module) → IsFormed tree → IsFaultless tree → (source : Source) (base : ℕ) → source.body ≡ plain_tree tree
+        → source.locals ≡ slots_of tree
         → AllBeginWithParams (source_texts source.file source base) }
-    ensures slots { (tree : Module) → IsFormed tree → IsFaultless tree → (source : Source) (base : ℕ) → source.body ≡ plain_tree tree → source.locals ≡ slots_of tree
+    ensures slots { (tree : Module) → IsFormed tree → IsFaultless tree → (source : Source) (base : ℕ) → source.body ≡ plain_tree tree
+        → source.locals ≡ slots_of tree
         → AllHaveSlots (source_texts source.file source base) }
 {}
 

@@ -47,7 +47,8 @@ pub fn prefix_law()
 pub fn sound_law()
     ensures expressions { (program : Program) (n : ℕ) (frame : Frame) (env : Locals) (line : ℕ) (e : Expr) (t : ℕ) (w : PlainWorld) → NamesStand frame.names w
         → WorldFollows w (world_e ((sem program n).eval frame env line e t w)) }
-    ensures statements { (program : Program) (n : ℕ) (frame : Frame) (handled : List ℕ) (line : ℕ) (s : Stmt) (env : Locals) (t : ℕ) (w : PlainWorld) → NamesStand frame.names w
+    ensures statements { (program : Program) (n : ℕ) (frame : Frame) (handled : List ℕ) (line : ℕ) (s : Stmt) (env : Locals) (t : ℕ)
+        (w : PlainWorld) → NamesStand frame.names w
         → WorldFollows w (world_s ((sem program n).exec frame handled line s env t w)) }
     ensures runs { (program : Program) (cells bytes : ℕ) (ports : List PortState) (t : ℕ)
         → WorldFollows (new_world cells bytes ports) (meaning program cells bytes ports t).world }

@@ -21,7 +21,8 @@ mutual
   -- the further clauses of an open statement that has come to that stage: the last of them is open
   pub data OpenClauses : Stage → Type 0 where
     in_later : {stage : Stage} → (later : Later) → may_follow stage (later_word later) ≡ true → Place → Place → Front → OpenClauses stage
-    behind_later : {stage : Stage} → (later : Later) → may_follow stage (later_word later) ≡ true → Suite → OpenClauses (behind stage (later_tree later)) → OpenClauses stage
+    behind_later : {stage : Stage} → (later : Later) → may_follow stage (later_word later) ≡ true → Suite
+        → OpenClauses (behind stage (later_tree later)) → OpenClauses stage
 
 abbrev mutual
   pub front_text : Front → List Token → List Token

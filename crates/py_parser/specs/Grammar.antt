@@ -91,7 +91,9 @@ first_text (if_ l t c) rest = at l (tok.Word word.If) ∷ test_text t (at c (tok
 first_text (while_ l t c) rest = at l (tok.Word word.While) ∷ test_text t (at c (tok.Op op.Colon) ∷ rest)
 first_text (for_ l gs r m c) rest = at l (tok.Word word.For) ∷ aims_text gs (at r (tok.Word word.In) ∷ members_text m (at c (tok.Op op.Colon) ∷ rest))
 first_text (try_ l c) rest = at l (tok.Word word.Try) ∷ at c (tok.Op op.Colon) ∷ rest
-first_text (def_ l n b ps fit e c) rest = at l (tok.Word word.Def) ∷ name_text n (at b (tok.Op op.OpenParen) ∷ parameters_text ps (at e (tok.Op op.CloseParen) ∷ at c (tok.Op op.Colon) ∷ rest))
+first_text (def_ l n b ps fit e c) rest =
+    at l (tok.Word word.Def)
+    ∷ name_text n (at b (tok.Op op.OpenParen) ∷ parameters_text ps (at e (tok.Op op.CloseParen) ∷ at c (tok.Op op.Colon) ∷ rest))
 
 -- the tokens of `as` and a name, if they stand there, and then these
 abbrev pub naming_text : Option Naming → List Token → List Token
@@ -198,7 +200,8 @@ abbrev mutual
 abbrev mutual
   pub statement_list : Statement → List Stmt
   statement_list (simple one) = line_tree one
-  statement_list (compound first b cs) = stmt_of (first_line first) (kind_of (first_line first) (first_tree first) (suite_list b) (clauses_parts cs no_parts)) ∷ []
+  statement_list (compound first b cs) =
+      stmt_of (first_line first) (kind_of (first_line first) (first_tree first) (suite_list b) (clauses_parts cs no_parts)) ∷ []
 
   pub suite_list : Suite → List Stmt
   suite_list (inline one) = line_tree one

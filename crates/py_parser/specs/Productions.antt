@@ -15,7 +15,9 @@ use Rattle.py_expressions.specs.Targets.{Aims, aims_text, aims_tree}
 use Rattle.py_statements.specs.Reading.{stmt_of}
 use Rattle.py_statements.specs.Grammar.{Name, name_text}
 use Rattle.py_parser.specs.Clauses.{params_fit, first_stage, branch_of, handler_of}
-use Rattle.py_parser.specs.Grammar.{Parameters, parameters_text, parameters_list, Naming, naming_text, naming_tree, First, first_tree, Suite, suite_text, suite_list, Clauses, Statement, compound, statement_text, statement_list}
+use Rattle.py_parser.specs.Grammar.{Parameters, parameters_text, parameters_list, Naming, naming_text, naming_tree, First}
+use Rattle.py_parser.specs.Grammar.{first_tree, Suite, suite_text, suite_list, Clauses, Statement, compound, statement_text}
+use Rattle.py_parser.specs.Grammar.{statement_list}
 
 -- ---- the clauses
 
@@ -126,10 +128,16 @@ finally_text (Some f) rest = last_text f rest
 abbrev pub production_text : Production → List Token → List Token
 production_text (if_ l t c b es e) rest = at l (tok.Word word.If) ∷ test_text t (at c (tok.Op op.Colon) ∷ suite_text b (elifs_text es (else_text e rest)))
 production_text (while_ l t c b e) rest = at l (tok.Word word.While) ∷ test_text t (at c (tok.Op op.Colon) ∷ suite_text b (else_text e rest))
-production_text (for_ l gs i m c b e) rest = at l (tok.Word word.For) ∷ aims_text gs (at i (tok.Word word.In) ∷ members_text m (at c (tok.Op op.Colon) ∷ suite_text b (else_text e rest)))
+production_text (for_ l gs i m c b e) rest =
+    at l (tok.Word word.For)
+    ∷ aims_text gs (at i (tok.Word word.In) ∷ members_text m (at c (tok.Op op.Colon) ∷ suite_text b (else_text e rest)))
 production_text (try_finally l c b f) rest = at l (tok.Word word.Try) ∷ at c (tok.Op op.Colon) ∷ suite_text b (last_text f rest)
-production_text (try_excepts l c b es e f) rest = at l (tok.Word word.Try) ∷ at c (tok.Op op.Colon) ∷ suite_text b (excepts_text es (else_text e (finally_text f rest)))
-production_text (def_ l n o ps fit r c b) rest = at l (tok.Word word.Def) ∷ name_text n (at o (tok.Op op.OpenParen) ∷ parameters_text ps (at r (tok.Op op.CloseParen) ∷ at c (tok.Op op.Colon) ∷ suite_text b rest))
+production_text (try_excepts l c b es e f) rest =
+    at l (tok.Word word.Try) ∷ at c (tok.Op op.Colon) ∷ suite_text b (excepts_text es (else_text e (finally_text f rest)))
+production_text (def_ l n o ps fit r c b) rest =
+    at l (tok.Word word.Def)
+    ∷ name_text n (at o (tok.Op op.OpenParen)
+    ∷ parameters_text ps (at r (tok.Op op.CloseParen) ∷ at c (tok.Op op.Colon) ∷ suite_text b rest))
 
 -- ---- the tree of a production
 

@@ -1,5 +1,6 @@
 -- Calls of built-in functions, types and kinds. What writes to the output or calls a port stands apart.
-use Rattle.std.specs.Prelude.{ℕ, ◌+◌, ◌-◌, ◌*◌, ℤ, pos, negsuc, neg_ℤ, unsigned_abs, List, [], ◌∷◌, length, reverse, fold, Bool, true, false, Option, Some, None, Result, Ok, Err, nat_eq, nat_lt, bytes_eq, if◌then◌else◌}
+use Rattle.std.specs.Prelude.{ℕ, ◌+◌, ◌-◌, ◌*◌, ℤ, pos, negsuc, neg_ℤ, unsigned_abs, List, [], ◌∷◌, length, reverse, fold, Bool}
+use Rattle.std.specs.Prelude.{true, false, Option, Some, None, Result, Ok, Err, nat_eq, nat_lt, bytes_eq, if◌then◌else◌}
 use Rattle.std.specs.Option.{option_map}
 use Rattle.std.specs.Char.{is_ascii_digit}
 use Rattle.std.specs.List.{list_any, list_all}
@@ -16,7 +17,8 @@ use Rattle.py_values.specs.Equality.{visit}
 use Rattle.py_primitives.specs.Builtins.{is_type}
 use Rattle.py_primitives.specs.Texts.{str_of, repr_of}
 use Rattle.py_primitives.specs.Order.{Sign, Below, Above, Unordered, best_from}
-use Rattle.py_primitives.specs.Faults.{Fault, WrongCount, TooFew, TooMany, NoLength, NotANumber, ZeroStep, NothingToCompare, NoNumeral, NoCharacter, NoCode, NotTypes, NoKeywords}
+use Rattle.py_primitives.specs.Faults.{Fault, WrongCount, TooFew, TooMany, NoLength, NotANumber, ZeroStep, NothingToCompare}
+use Rattle.py_primitives.specs.Faults.{NoNumeral, NoCharacter, NoCode, NotTypes, NoKeywords}
 use Rattle.py_primitives.specs.Outcome.{Outcome, gives, raises, with_visits, after_walk, making, making_text, making_list, making_exception, list_of, tuple_of}
 use Rattle.py_primitives.specs.Iterables.{iterating, items_in, kept_items, length_of}
 use Rattle.py_primitives.specs.Operators.{gives_number, unsupported, sign_method, exception_kind, is_under, members, all_of}

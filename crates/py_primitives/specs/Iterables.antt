@@ -1,5 +1,6 @@
 -- Iterables: strs, tuples, lists, dicts (their keys) and ranges.
-use Rattle.std.specs.Prelude.{ℕ, suc, ◌-◌, ℤ, pos, negsuc, ◌+ℤ◌, ◌*ℤ◌, List, [], ◌∷◌, length, map, Option, Some, None, nat_lt, slice_get, slice_index, if◌then◌else◌}
+use Rattle.std.specs.Prelude.{ℕ, suc, ◌-◌, ℤ, pos, negsuc, ◌+ℤ◌, ◌*ℤ◌, List, [], ◌∷◌, length, map, Option, Some, None, nat_lt}
+use Rattle.std.specs.Prelude.{slice_get, slice_index, if◌then◌else◌}
 use Rattle.std.specs.List.{range_with_len}
 use Rattle.py_values.specs.mpy_base.Val.{Val, Nil, Int, Str}
 use Rattle.py_values.specs.Shown.{PlainHeap, Shown, Text, Tuple, Items, Pairs, Range, range_len, shown}

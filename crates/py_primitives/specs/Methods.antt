@@ -1,5 +1,6 @@
 -- Calls of methods of lists, dicts and strs.
-use Rattle.std.specs.Prelude.{ℕ, zero, suc, ◌+◌, ◌-◌, ℤ, pos, negsuc, List, [], ◌∷◌, ◌++◌, length, map, filter, insert, Bool, not, ◌&&◌, ◌||◌, Option, Some, None, nat_eq, nat_le, slice_get, codes, if◌then◌else◌}
+use Rattle.std.specs.Prelude.{ℕ, zero, suc, ◌+◌, ◌-◌, ℤ, pos, negsuc, List, [], ◌∷◌, ◌++◌, length, map, filter, insert, Bool, not}
+use Rattle.std.specs.Prelude.{◌&&◌, ◌||◌, Option, Some, None, nat_eq, nat_le, slice_get, codes, if◌then◌else◌}
 use Rattle.std.specs.List.{remove, starts_with, slice_split, onto_first}
 use Rattle.std.specs.Option.{option_map}
 use Rattle.py_values.specs.mpy_base.declared.builtin.Builtin.{Builtin}
@@ -14,7 +15,8 @@ use Rattle.py_values.specs.Small.{checked}
 use Rattle.py_primitives.specs.Walks.{walk_map}
 use Rattle.py_primitives.specs.Texts.{joined}
 use Rattle.py_primitives.specs.Faults.{NoKeywords, EmptyList, NoKey, JoinsNoStr, EmptySeparator}
-use Rattle.py_primitives.specs.Outcome.{Outcome, gives, raises, is_full, with_visits, followed_by, after_walk, making_text, making_texts, making_tuple, making_list, list_of}
+use Rattle.py_primitives.specs.Outcome.{Outcome, gives, raises, is_full, with_visits, followed_by, after_walk, making_text}
+use Rattle.py_primitives.specs.Outcome.{making_texts, making_tuple, making_list, list_of}
 use Rattle.py_primitives.specs.Iterables.{iterating, or_nil, place_before}
 use Rattle.py_primitives.specs.Operators.{unsupported, gives_number, extend, with_key_of}
 use Rattle.py_primitives.specs.Uses.{at_place}

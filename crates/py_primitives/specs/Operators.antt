@@ -1,5 +1,7 @@
 -- Operators.
-use Rattle.std.specs.Prelude.{ℕ, suc, ℤ, pos, neg_ℤ, ◌+ℤ◌, ◌-ℤ◌, ◌*ℤ◌, List, [], ◌∷◌, ◌++◌, length, Bool, true, false, not, ◌&&◌, Option, Some, None, is_some, option_and_then, Result, Ok, Err, nat_eq, bytes_eq, codes, if◌then◌else◌}
+use Rattle.std.specs.Prelude.{ℕ, suc, ℤ, pos, neg_ℤ, ◌+ℤ◌, ◌-ℤ◌, ◌*ℤ◌, List, [], ◌∷◌, ◌++◌, length, Bool, true, false, not, ◌&&◌}
+use Rattle.std.specs.Prelude.{Option, Some, None, is_some, option_and_then, Result, Ok, Err, nat_eq, bytes_eq, codes}
+use Rattle.std.specs.Prelude.{if◌then◌else◌}
 use Rattle.std.specs.List.{repeat, list_any, starts_with, range_with_len}
 use Rattle.std.specs.Option.{option_map}
 use Rattle.std.specs.declared.cmp.Ordering.{Ordering}
@@ -105,7 +107,8 @@ extended_by heap list v items =
     let total = length (items_at heap list ++ items) in
     with_visits (length items) (
     if does_fit heap (list_growth heap list total) 0
-    then followed_by (kept_items (with_list_room heap list total) items (shown heap v)) (λ kept behind. gives (At list) (with_list behind list (items_at heap list ++ kept)))
+    then followed_by (kept_items (with_list_room heap list total) items (shown heap v))
+    (λ kept behind. gives (At list) (with_list behind list (items_at heap list ++ kept)))
     else is_full heap (list_growth heap list total) 0)
 
 -- a list takes the items of an iterable

@@ -1,5 +1,6 @@
 -- Calls that write to the output, and those of ports.
-use Rattle.std.specs.Prelude.{ℕ, ◌+◌, ◌-◌, ◌^◌, min, ℤ, pos, negsuc, List, [], ◌∷◌, ◌++◌, length, Bool, Option, Some, None, Result, Ok, Err, nat_eq, bytes_eq, slice_get, slice_set, unwrap_or, codes, if◌then◌else◌}
+use Rattle.std.specs.Prelude.{ℕ, ◌+◌, ◌-◌, ◌^◌, min, ℤ, pos, negsuc, List, [], ◌∷◌, ◌++◌, length, Bool, Option, Some, None}
+use Rattle.std.specs.Prelude.{Result, Ok, Err, nat_eq, bytes_eq, slice_get, slice_set, unwrap_or, codes, if◌then◌else◌}
 use Rattle.std.specs.List.{list_any}
 use Rattle.py_values.specs.mpy_base.declared.builtin.Builtin.{Builtin}
 use Rattle.py_values.specs.mpy_base.declared.builtin.Builtin.TheVariants as builtins
@@ -12,7 +13,8 @@ use Rattle.py_values.specs.Names.{type_name}
 use Rattle.py_primitives.specs.Walks.{walk_all}
 use Rattle.py_primitives.specs.Texts.{str_of, joined}
 use Rattle.py_primitives.specs.Calls.{counts_of, count_fault}
-use Rattle.py_primitives.specs.Faults.{Fault, NoKeywords, KeywordNotAStr, UnknownKeyword, RepeatedKeyword, NotAStr, NotANumber, NoSuchPort, PortFailed, Arithmetic}
+use Rattle.py_primitives.specs.Faults.{Fault, NoKeywords, KeywordNotAStr, UnknownKeyword, RepeatedKeyword, NotAStr, NotANumber}
+use Rattle.py_primitives.specs.Faults.{NoSuchPort, PortFailed, Arithmetic}
 use Rattle.py_primitives.specs.Outcome.{Outcome, Stop, Raises, gives, raises, after_walk}
 
 -- print

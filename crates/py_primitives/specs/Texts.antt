@@ -1,6 +1,7 @@
 -- The texts of values: what print and str write, and the reprs that values have inside others. Each value that is written
 -- is one visit.
-use Rattle.std.specs.Prelude.{ℕ, zero, suc, ◌/◌, ◌%◌, ℤ, pos, Bool, true, false, not, ◌&&◌, ◌||◌, List, [], ◌∷◌, ◌++◌, Option, Some, None, nat_eq, nat_lt, codes, if◌then◌else◌}
+use Rattle.std.specs.Prelude.{ℕ, zero, suc, ◌/◌, ◌%◌, ℤ, pos, Bool, true, false, not, ◌&&◌, ◌||◌, List, [], ◌∷◌, ◌++◌, Option}
+use Rattle.std.specs.Prelude.{Some, None, nat_eq, nat_lt, codes, if◌then◌else◌}
 use Rattle.std.specs.List.{list_any, flat_map, join_by}
 use Rattle.std.specs.Fmt.{digit_glyph, signed_decimal}
 use Rattle.std.specs.Ordering.{int_eq}
@@ -9,7 +10,8 @@ use Rattle.py_values.specs.mpy_base.declared.builtin.Builtin.TheVariants as buil
 use Rattle.py_values.specs.mpy_base.declared.kind.Kind.{Kind}
 use Rattle.py_values.specs.mpy_base.declared.limits.TheConstants.{MAX_WALK_DEPTH}
 use Rattle.py_values.specs.mpy_base.Kind.{kind_name}
-use Rattle.py_values.specs.mpy_base.World.{Object, ListObject, TupleObject, TextObject, DictObject, FunctionObject, ExceptionObject, MethodObject, RangeObject, ModuleObject, object}
+use Rattle.py_values.specs.mpy_base.World.{Object, ListObject, TupleObject, TextObject, DictObject, FunctionObject}
+use Rattle.py_values.specs.mpy_base.World.{ExceptionObject, MethodObject, RangeObject, ModuleObject, object}
 use Rattle.py_values.specs.mpy_base.Val.{Val, Nil, Truth, Int, Str, Fixed, Empty, Built, At, vals}
 use Rattle.py_values.specs.Shown.{PlainHeap, Shown, Tuple, shown}
 use Rattle.py_values.specs.Names.{builtin_name}

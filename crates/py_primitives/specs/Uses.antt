@@ -4,7 +4,8 @@ use Rattle.std.specs.List.{remove}
 use Rattle.std.specs.Option.{option_map}
 use Rattle.py_values.specs.mpy_base.declared.builtin.Builtin.{Builtin}
 use Rattle.py_values.specs.mpy_base.declared.builtin.Builtin.TheVariants as builtins
-use Rattle.py_values.specs.mpy_base.World.{Object, ListObject, DictObject, TextObject, ExceptionObject, MethodObject, ModuleObject, object, pairs_at, with_list, with_dict}
+use Rattle.py_values.specs.mpy_base.World.{Object, ListObject, DictObject, TextObject, ExceptionObject, MethodObject}
+use Rattle.py_values.specs.mpy_base.World.{ModuleObject, object, pairs_at, with_list, with_dict}
 use Rattle.py_values.specs.mpy_base.Weights.{does_fit, dict_growth, with_pairs}
 use Rattle.py_values.specs.mpy_base.Val.{Val, Nil, Str, Built, At}
 use Rattle.py_values.specs.Shown.{PlainHeap, Shown, Number, Text, Tuple, Items, Pairs, Range, shown}

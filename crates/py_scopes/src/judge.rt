@@ -4,7 +4,9 @@ ghost use Rattle.std.specs.Prelude.{◌≡◌, [], ◌∷◌, ◌++◌, length, 
 ghost use Rattle.py_scopes.specs.declared.names.Tells.TheVariants.{Bound as bound_names, Declared as declared_names};
 ghost use Rattle.py_scopes.specs.Names.{has, names_in, bytes_of};
 ghost use Rattle.py_scopes.specs.Asked.{Asks};
-ghost use Rattle.py_scopes.specs.Scopes.{own, marks, is_local as local_test, is_found as found_test, is_captured as captured_test, is_late as late_test, fault as fault_of, wrong as wrong_of, locals_below, IsFirst, AreFaultless};
+ghost use Rattle.py_scopes.specs.Scopes.{own, marks, is_local as local_test, is_found as found_test};
+ghost use Rattle.py_scopes.specs.Scopes.{is_captured as captured_test, is_late as late_test, fault as fault_of};
+ghost use Rattle.py_scopes.specs.Scopes.{wrong as wrong_of, locals_below, IsFirst, AreFaultless};
 
 use crate::event::{Act, Event};
 use crate::names::{Tells, are_empty, is_in, step};

@@ -59,7 +59,8 @@ pub(crate) fn are_empty(sets: &[IndexSet<Vec<u8>>]) -> bool
 fn add(alloc: Global, sets: &mut Sets, f: usize, name: &[u8]) -> Result<(), NoMemory>
     requires { f < length sets.old.items }
     ensures count { OnOk result (length sets.new.items ≡ length sets.old.items) }
-    ensures names { OnOk result ((g : ℕ) → names_in sets.new.items g ≡ (if nat_eq g f then added (names_in sets.old.items g) name.now else names_in sets.old.items g)) }
+    ensures names { OnOk result ((g : ℕ)
+        → names_in sets.new.items g ≡ (if nat_eq g f then added (names_in sets.old.items g) name.now else names_in sets.old.items g)) }
 {
     if is_in(sets, f, name) {
         return Ok(());

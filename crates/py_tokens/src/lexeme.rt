@@ -9,7 +9,8 @@ ghost use Rattle.py_tokens.specs.LineEnd.{Begins, IsLineByte};
 ghost use Rattle.py_tokens.specs.Name.{IsNameStart, IsName};
 ghost use Rattle.py_tokens.specs.Number.{BeginsRun};
 ghost use Rattle.py_tokens.specs.Literal.{IsQuote};
-ghost use Rattle.py_tokens.specs.Lexeme.{IsBlank, IsInLine, IsMark, IsRunOf, Announces, WordAnswers, PrefixAnswers, StringAnswers, Answers, IsFront, string_fault, Refuses, Finds, may_span};
+ghost use Rattle.py_tokens.specs.Lexeme.{IsBlank, IsInLine, IsMark, IsRunOf, Announces, WordAnswers, PrefixAnswers};
+ghost use Rattle.py_tokens.specs.Lexeme.{StringAnswers, Answers, IsFront, string_fault, Refuses, Finds, may_span};
 
 use crate::escape::{StringFaultKind, line_end_len};
 use crate::name::name_len;

@@ -1,6 +1,7 @@
 //! Logical lines: brackets, levels, and the tokens that they give.
 
-ghost use Rattle.std.specs.Prelude.{◌≡◌, ℕ, ◌+◌, ◌^◌, ◌≤◌, ◌<◌, [], ◌++◌, length, drop, if◌then◌else◌, replicate, position, bytes_eq, vec_len, IfSome, IfOk, OnOk, slice_get, Some, true, false};
+ghost use Rattle.std.specs.Prelude.{◌≡◌, ℕ, ◌+◌, ◌^◌, ◌≤◌, ◌<◌, [], ◌++◌, length, drop, if◌then◌else◌, replicate, position};
+ghost use Rattle.std.specs.Prelude.{bytes_eq, vec_len, IfSome, IfOk, OnOk, slice_get, Some, true, false};
 ghost use Rattle.mpy_base.specs.declared.limits.TheConstants.{MAX_SOURCE_BYTES};
 ghost use Rattle.py_tokens.specs.declared.lines.Change.TheVariants as changes;
 ghost use Rattle.py_tokens.specs.declared.token.Tok.TheVariants as toks;

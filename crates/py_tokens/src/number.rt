@@ -1,8 +1,10 @@
 //! Numbers.
 
-ghost use Rattle.std.specs.Prelude.{◌≡◌, ℕ, ◌<◌, ◌≤◌, ◌↔◌, pos, List, ◌++◌, All, IsTrue, length, take, slice_index, min, Ok, IfOk, Err, IfSome, IsSome, IsErrOf, MatchOption};
+ghost use Rattle.std.specs.Prelude.{◌≡◌, ℕ, ◌<◌, ◌≤◌, ◌↔◌, pos, List, ◌++◌, All, IsTrue, length, take, slice_index, min, Ok};
+ghost use Rattle.std.specs.Prelude.{IfOk, Err, IfSome, IsSome, IsErrOf, MatchOption};
 ghost use Rattle.py_tokens.specs.Digits.{IsDigits, value_of};
-ghost use Rattle.py_tokens.specs.Number.{IsRunPart, IsRun, HasPrefix, LooksFloat, LooksComplex, IsZeros, IsDecimal, Spells, IsNumber, IsBadToken, IsFloat, IsComplex, IsTooBig, Says};
+ghost use Rattle.py_tokens.specs.Number.{IsRunPart, IsRun, HasPrefix, LooksFloat, LooksComplex, IsZeros, IsDecimal, Spells};
+ghost use Rattle.py_tokens.specs.Number.{IsNumber, IsBadToken, IsFloat, IsComplex, IsTooBig, Says};
 
 use crate::digits::{TOO_BIG, value_of_digits};
 

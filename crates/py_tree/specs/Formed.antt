@@ -1,5 +1,6 @@
 -- Formed trees: those that sources have.
-use Rattle.std.specs.Prelude.{◌≡◌, ℕ, ℤ, pos, negsuc, ◌+◌, ◌<◌, ◌^◌, Bool, true, false, not, ◌&&◌, ◌||◌, if◌then◌else◌, nat_lt, nat_le, List, [], ◌∷◌, ◌++◌, map, Option, Some, None, is_some}
+use Rattle.std.specs.Prelude.{◌≡◌, ℕ, ℤ, pos, negsuc, ◌+◌, ◌<◌, ◌^◌, Bool, true, false, not, ◌&&◌, ◌||◌, if◌then◌else◌, nat_lt}
+use Rattle.std.specs.Prelude.{nat_le, List, [], ◌∷◌, ◌++◌, map, Option, Some, None, is_some}
 use Rattle.std.specs.List.{list_all, list_any, flat_map, concat, sum}
 use Rattle.std.specs.Str.{bytes_eq}
 use Rattle.py_tree.specs.declared.expr.Expr.{Expr}
@@ -180,8 +181,11 @@ branch_step branch = expr_formed branch.test && body_formed branch.body
 
 -- one without a test has no name
 abbrev pub handler_step : Handler-F Bool Bool Handled Bool → Handled
-handler_step handler =
-    (is_some handler.test, (is_some handler.test || not (is_some handler.name)) && (option_formed handler.test && (option_ascii handler.name && body_formed handler.body)))
+handler_step handler = (
+  is_some handler.test,
+  (is_some handler.test || not (is_some handler.name))
+      && (option_formed handler.test && (option_ascii handler.name && body_formed handler.body)),
+)
 
 -- is a statement formed with its line?
 abbrev pub stmt_step : Stmt-F Bool Bool Handled Bool → Bool

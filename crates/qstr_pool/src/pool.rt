@@ -1,6 +1,7 @@
 //! Pools of texts: each text once, with a number by the order of first use. A look-up takes the time of a hash of the text.
 
-ghost use Rattle.std.specs.Prelude.{◌≡◌, ◌↔◌, ℕ, ◌+◌, ◌<◌, ◌≤◌, ◌^◌, List, [], length, Some, None, Ok, option_copied, IsTrue, IsSome, IfSome, IsOk, IfOk, OnOk, OnErr, IsErrOf};
+ghost use Rattle.std.specs.Prelude.{◌≡◌, ◌↔◌, ℕ, ◌+◌, ◌<◌, ◌≤◌, ◌^◌, List, [], length, Some, None, Ok, option_copied, IsTrue};
+ghost use Rattle.std.specs.Prelude.{IsSome, IfSome, IsOk, IfOk, OnOk, OnErr, IsErrOf};
 ghost use Rattle.qstr_pool.specs.Full.{pool_full};
 ghost use Rattle.qstr_pool.specs.Pool.{IsPool, IsOneToOne, number_of, text_of, interned, first_texts, all_differ};
 

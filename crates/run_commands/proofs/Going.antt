@@ -17,7 +17,7 @@ use Rattle.library_files.specs.Loads.{Loading}
 use Rattle.command_files.specs.source_files.Sources.{stored, source_ending, IsModuleOf, SourceComesTo, LoadsFromSources}
 use Rattle.command_files.specs.mpy_endings.declared.ending.Ending.{Ending}
 use Rattle.command_files.specs.mpy_endings.declared.ending.Ending.TheVariants.{Done, Unaccepted, Unread, Unverified, Unmerged, Unopened, Unfrozen, Unboarded, Different, Stopped, ReadFault, WriteFault, Unwritten, NoMemory, Absent}
-use Rattle.command_files.specs.mpy_endings.declared.ending.Stop.TheVariants.{Past, LibraryFault, LibraryUnaccepted, Raised, Memory, Steps, Unsaved}
+use Rattle.command_files.specs.mpy_endings.declared.ending.Stop.TheVariants.{Past, LibraryFault, LibraryUnaccepted, Raised, Memory, Steps, Unsaved, Unresumed}
 use Rattle.run_commands.specs.Base.{base_of}
 use Rattle.command_files.specs.Folder.{MayHold}
 use Rattle.run_commands.specs.Go.{HoldsSource, SourceLoadsOf, RefusesSources}
@@ -83,6 +83,7 @@ sources_unloaded level files name (Stopped Raised) h = absurd h
 sources_unloaded level files name (Stopped Memory) h = absurd h
 sources_unloaded level files name (Stopped (Steps count)) h = absurd h
 sources_unloaded level files name (Stopped Unsaved) h = absurd h
+sources_unloaded level files name (Stopped (Unresumed fault)) h = absurd h
 sources_unloaded level files name ReadFault h = tt
 sources_unloaded level files name WriteFault h = absurd h
 sources_unloaded level files name Unwritten h = absurd h

@@ -3,6 +3,7 @@ pub mod Bases
 pub mod Running
 pub mod Going
 pub mod Suspending
+pub mod Resumption
 mod Starting
 mod Examples
 pub mod Front

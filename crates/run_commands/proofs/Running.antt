@@ -20,7 +20,7 @@ use Rattle.library_runs.specs.declared.ending.RunEnd.TheVariants as ends
 use Rattle.library_runs.specs.Runs.{Sight, IsOver, RunsAs, is_write_fault, sight, speaks}
 use Rattle.command_files.specs.mpy_endings.declared.ending.Ending.{Ending}
 use Rattle.command_files.specs.mpy_endings.declared.ending.Ending.TheVariants.{Done, Unaccepted, Unread, Unverified, Unmerged, Unopened, Unfrozen, Unboarded, Different, Stopped, ReadFault, WriteFault, Unwritten, NoMemory, Absent}
-use Rattle.command_files.specs.mpy_endings.declared.ending.Stop.TheVariants.{Past, LibraryFault, LibraryUnaccepted, Raised, Memory, Steps, Unsaved}
+use Rattle.command_files.specs.mpy_endings.declared.ending.Stop.TheVariants.{Past, LibraryFault, LibraryUnaccepted, Raised, Memory, Steps, Unsaved, Unresumed}
 use Rattle.run_commands.specs.Base.{base_of}
 use Rattle.command_files.specs.mpy_endings.Ending.{IsRunStatus, is_folder_fault, is_out_fault, is_said, status_of}
 use Rattle.command_files.specs.Folder.{MayHold}
@@ -101,6 +101,7 @@ refused_unloaded files name (Stopped Raised) h = absurd h
 refused_unloaded files name (Stopped Memory) h = absurd h
 refused_unloaded files name (Stopped (Steps count)) h = absurd h
 refused_unloaded files name (Stopped Unsaved) h = absurd h
+refused_unloaded files name (Stopped (Unresumed fault)) h = absurd h
 refused_unloaded files name ReadFault h = tt
 refused_unloaded files name WriteFault h = absurd h
 refused_unloaded files name Unwritten h = absurd h
@@ -152,6 +153,7 @@ module _ (Comes : Result Ready Ending → Type 0) (room : Room) (steps : ℕ) (o
   not_loaded (Stopped Memory) u h e s = absurd u
   not_loaded (Stopped (Steps count)) u h e s = absurd u
   not_loaded (Stopped Unsaved) u h e s = absurd u
+  not_loaded (Stopped (Unresumed fault)) u h e s = absurd u
   not_loaded ReadFault u h e s = (h, untouched e s)
   not_loaded WriteFault u h e s = absurd u
   not_loaded Unwritten u h e s = absurd u
@@ -176,6 +178,7 @@ module _ (Comes : Result Ready Ending → Type 0) (room : Room) (steps : ℕ) (o
   unsaid (Stopped Memory) r e = absurd cc
   unsaid (Stopped (Steps count)) r e = r.0.2.is_said
   unsaid (Stopped Unsaved) r e = absurd r
+  unsaid (Stopped (Unresumed fault)) r e = absurd r
   unsaid ReadFault r e = r.1.says
   unsaid WriteFault r e = r.2.is_said
   unsaid Unwritten r e = absurd r
@@ -201,6 +204,7 @@ module _ (Comes : Result Ready Ending → Type 0) (room : Room) (steps : ℕ) (o
     runs_known (Stopped Memory) r = (r.0, known (Ok r.0) r.1, r.2)
     runs_known (Stopped (Steps count)) r = ((r.0.0, known (Ok r.0.0) r.0.1, r.0.2), r.1)
     runs_known (Stopped Unsaved) r = absurd r
+    runs_known (Stopped (Unresumed fault)) r = absurd r
     runs_known ReadFault r = (known (Err ReadFault) r.0, r.1)
     runs_known WriteFault r = (r.0, known (Ok r.0) r.1, r.2)
     runs_known Unwritten r = absurd r
@@ -304,6 +308,7 @@ said_line name (Stopped Raised) e = refl
 said_line name (Stopped Memory) e = refl
 said_line name (Stopped (Steps count)) e = absurd cc
 said_line name (Stopped Unsaved) e = absurd cc
+said_line name (Stopped (Unresumed fault)) e = absurd cc
 said_line name ReadFault e = absurd cc
 said_line name WriteFault e = absurd cc
 said_line name Unwritten e = absurd cc

@@ -13,7 +13,7 @@ use Rattle.library_runs.specs.declared.ending.RunEnd.TheVariants as ends
 use Rattle.library_runs.specs.Runs.{Sight, RunsAs, StandsAt}
 use Rattle.command_files.specs.mpy_endings.declared.ending.Ending.{Ending}
 use Rattle.command_files.specs.mpy_endings.declared.ending.Ending.TheVariants.{Done, Unaccepted, Unread, Unverified, Unmerged, Unopened, Unfrozen, Unboarded, Different, Stopped, ReadFault, WriteFault, Unwritten, NoMemory, Absent}
-use Rattle.command_files.specs.mpy_endings.declared.ending.Stop.TheVariants.{Past, LibraryFault, LibraryUnaccepted, Raised, Memory, Steps, Unsaved}
+use Rattle.command_files.specs.mpy_endings.declared.ending.Stop.TheVariants.{Past, LibraryFault, LibraryUnaccepted, Raised, Memory, Steps, Unsaved, Unresumed}
 use Rattle.command_files.specs.mpy_endings.Ending.{is_folder_fault, is_out_fault, is_said, status_of}
 use Rattle.command_files.specs.mpy_endings.Line.{Puts, Says, line_of, name_in}
 use Rattle.command_files.specs.Folder.{ChangesOnly}
@@ -74,6 +74,7 @@ module _ (shelf : Shelf) (vm : Vm) (steps : ℕ) (snap : List ℕ) (old new : Op
   saved_reads (Stopped Memory) h = absurd h
   saved_reads (Stopped (Steps count)) h = refl
   saved_reads (Stopped Unsaved) h = refl
+  saved_reads (Stopped (Unresumed fault)) h = absurd h
   saved_reads ReadFault h = absurd h
   saved_reads WriteFault h = absurd h
   saved_reads Unwritten h = refl
@@ -105,6 +106,7 @@ module _ (Comes : Result Ready Ending → Type 0) (room : Room) (steps : ℕ) (o
   not_begun (Stopped Memory) u h e s same = absurd u
   not_begun (Stopped (Steps count)) u h e s same = absurd u
   not_begun (Stopped Unsaved) u h e s same = absurd u
+  not_begun (Stopped (Unresumed fault)) u h e s same = absurd u
   not_begun ReadFault u h e s same = (not_loaded Comes room steps old new said ReadFault u h e s, same)
   not_begun WriteFault u h e s same = absurd u
   not_begun Unwritten u h e s same = absurd u
@@ -143,6 +145,7 @@ module _ (Comes : Result Ready Ending → Type 0) (room : Room) (steps : ℕ) (o
       was_saved (Stopped Memory) h = absurd h
       was_saved (Stopped (Steps count)) h = (suspends (Saved snap files_old files_new) h.0, h.1)
       was_saved (Stopped Unsaved) h = (suspends HasNone h.0, h.1)
+      was_saved (Stopped (Unresumed fault)) h = absurd h
       was_saved ReadFault h = absurd h
       was_saved WriteFault h = absurd h
       was_saved Unwritten h = suspends (SavedFront snap files_old files_new) h
@@ -205,6 +208,7 @@ module _ (room : Room) (steps : ℕ) (old new : Sight) (said snap : List ℕ) (f
   unsaid_to Comes (Stopped Memory) r e = absurd cc
   unsaid_to Comes (Stopped (Steps count)) r e = r.0.runs.is_said
   unsaid_to Comes (Stopped Unsaved) r e = r.0.runs.is_said
+  unsaid_to Comes (Stopped (Unresumed fault)) r e = absurd r.0
   unsaid_to Comes ReadFault r e = unsaid Comes room steps old new said ReadFault r.0 e
   unsaid_to Comes WriteFault r e = unsaid Comes room steps old new said WriteFault r.0 e
   unsaid_to Comes Unwritten r e = r.runs.is_said
@@ -236,6 +240,7 @@ module _ (room : Room) (steps : ℕ) (old new : Sight) (said snap : List ℕ) (f
     saving_known (Stopped Memory) r = (runs_known Comes room steps old new said Known known (Stopped Memory) r.0, r.1)
     saving_known (Stopped (Steps count)) r = (suspends_known (Saved snap files_old files_new) r.0, r.1)
     saving_known (Stopped Unsaved) r = (suspends_known HasNone r.0, r.1)
+    saving_known (Stopped (Unresumed fault)) r = absurd r.0
     saving_known ReadFault r = (runs_known Comes room steps old new said Known known ReadFault r.0, r.1)
     saving_known WriteFault r = (runs_known Comes room steps old new said Known known WriteFault r.0, r.1)
     saving_known Unwritten r = suspends_known (SavedFront snap files_old files_new) r
@@ -266,6 +271,7 @@ module _ (room : Room) (steps : ℕ) (old new : Sight) (said snap : List ℕ) (f
   saving_only Comes (Stopped Memory) r = same_only files_old files_new snap r.1
   saving_only Comes (Stopped (Steps count)) r = became_only files_old files_new snap r.0.saves.0 r.0.saves.2
   saving_only Comes (Stopped Unsaved) r = same_only files_old files_new snap r.1
+  saving_only Comes (Stopped (Unresumed fault)) r = absurd r.0
   saving_only Comes ReadFault r = same_only files_old files_new snap r.1
   saving_only Comes WriteFault r = same_only files_old files_new snap r.1
   saving_only Comes Unwritten r = front_only files_old files_new snap r.saves.0 r.saves.2
@@ -326,6 +332,7 @@ module _ (loaded : Result Ready Ending) (a b c : ℕ) (counted : Counts a b (fai
   counts_run room steps old new said (Stopped Memory) r h = with_none a b c (failed_in loaded) counted h
   counts_run room steps old new said (Stopped (Steps count)) r h = with_none a b c (failed_in loaded) counted h
   counts_run room steps old new said (Stopped Unsaved) r h = with_none a b c (failed_in loaded) counted h
+  counts_run room steps old new said (Stopped (Unresumed fault)) r h = with_none a b c (failed_in loaded) counted h
   counts_run room steps old new said ReadFault r h = with_none a b c (failed_in loaded) counted h
   counts_run room steps old new said WriteFault r h = with_none a b c (failed_in loaded) counted h
   counts_run room steps old new said Unwritten r h = absurd r
@@ -350,6 +357,7 @@ module _ (loaded : Result Ready Ending) (a b c : ℕ) (counted : Counts a b (fai
   counts_saving room steps old new said snap files_old files_new (Stopped Memory) r h = with_none a b c (failed_in loaded) counted h
   counts_saving room steps old new said snap files_old files_new (Stopped (Steps count)) r h = with_none a b c (failed_in loaded) counted h
   counts_saving room steps old new said snap files_old files_new (Stopped Unsaved) r h = with_none a b c (failed_in loaded) counted h
+  counts_saving room steps old new said snap files_old files_new (Stopped (Unresumed fault)) r h = with_none a b c (failed_in loaded) counted h
   counts_saving room steps old new said snap files_old files_new ReadFault r h = with_none a b c (failed_in loaded) counted h
   counts_saving room steps old new said snap files_old files_new WriteFault r h = with_none a b c (failed_in loaded) counted h
   counts_saving room steps old new said snap files_old files_new Unwritten r h = after_none a b c (failed_in loaded) (ap (λ (x : Result Ready Ending). failed_in x) (sym r.comes)) counted h

@@ -10,6 +10,7 @@ pub mod Go
 pub mod Run
 pub mod Ready
 pub mod Save
+pub mod Resume
 pub mod Draws
 pub mod Source
 pub mod Stress

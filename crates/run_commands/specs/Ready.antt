@@ -9,7 +9,9 @@ use Rattle.bc_library.specs.Shelf.{Shelf}
 use Rattle.library_files.specs.Loads.{main_name}
 use Rattle.command_files.specs.image_runs.Main.{HoldsMain, RefusesMain}
 use Rattle.command_files.specs.mpy_endings.declared.ending.Ending.{Ending}
-use Rattle.command_files.specs.mpy_endings.declared.ending.Ending.TheVariants.{Done, Unaccepted, Unread, Unverified, Unmerged, Unopened, Unfrozen, Unboarded, Different, Stopped, ReadFault, WriteFault, Unwritten, NoMemory, Absent}
+use Rattle.command_files.specs.mpy_endings.declared.ending.Ending.TheVariants.{Done, Unaccepted, Unread, Unverified, Unmerged}
+use Rattle.command_files.specs.mpy_endings.declared.ending.Ending.TheVariants.{Unopened, Unfrozen, Unboarded, Different, Stopped}
+use Rattle.command_files.specs.mpy_endings.declared.ending.Ending.TheVariants.{ReadFault, WriteFault, Unwritten, NoMemory, Absent}
 use Rattle.run_commands.specs.declared.ready.Ready.{Ready}
 use Rattle.command_files.specs.Folder.{MayHold, IsNotRead}
 use Rattle.run_commands.specs.Go.{SourceLibrary}
@@ -67,5 +69,7 @@ ImageStart below main bytes (Err Absent) = ⊥
 -- name, and else of a file, which has no use for what lies below. Or what keeps it from being run
 pub data RunLibrary (below : Shelf) (main : List ℕ) (files : Option FileOf) (name : List ℕ) (answer : Result Ready Ending) : Type 0 where
   not_read : (ending : Ending) → IsNotRead files name ending → answer ≡ Err ending → RunLibrary below main files name answer
-  of_file : (bytes : List ℕ) → MayHold files name (Some bytes) → begins_image bytes ≡ false → FirstOf (FileLibrary files name) answer → RunLibrary below main files name answer
-  of_image : (bytes : List ℕ) → MayHold files name (Some bytes) → length bytes ≤ MAX_READ_BYTES → begins_image bytes ≡ true → ImageStart below main bytes answer → RunLibrary below main files name answer
+  of_file : (bytes : List ℕ) → MayHold files name (Some bytes) → begins_image bytes ≡ false → FirstOf (FileLibrary files name) answer
+      → RunLibrary below main files name answer
+  of_image : (bytes : List ℕ) → MayHold files name (Some bytes) → length bytes ≤ MAX_READ_BYTES → begins_image bytes ≡ true
+      → ImageStart below main bytes answer → RunLibrary below main files name answer

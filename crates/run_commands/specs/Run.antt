@@ -23,8 +23,10 @@ use Rattle.library_runs.specs.declared.ending.RunEnd.TheVariants as ends
 use Rattle.library_runs.specs.Runs.{Sight, RunsAs}
 use Rattle.command_files.specs.mpy_words.declared.order.Order.{Order}
 use Rattle.command_files.specs.mpy_endings.declared.ending.Ending.{Ending}
-use Rattle.command_files.specs.mpy_endings.declared.ending.Ending.TheVariants.{Done, Unaccepted, Unread, Unverified, Unmerged, Unopened, Unfrozen, Unboarded, Different, Stopped, ReadFault, WriteFault, Unwritten, NoMemory, Absent}
-use Rattle.command_files.specs.mpy_endings.declared.ending.Stop.TheVariants.{Past, LibraryFault, LibraryUnaccepted, Raised, Memory, Steps, Unsaved}
+use Rattle.command_files.specs.mpy_endings.declared.ending.Ending.TheVariants.{Done, Unaccepted, Unread, Unverified, Unmerged}
+use Rattle.command_files.specs.mpy_endings.declared.ending.Ending.TheVariants.{Unopened, Unfrozen, Unboarded, Different, Stopped}
+use Rattle.command_files.specs.mpy_endings.declared.ending.Ending.TheVariants.{ReadFault, WriteFault, Unwritten, NoMemory, Absent}
+use Rattle.command_files.specs.mpy_endings.declared.ending.Stop.TheVariants.{Past, LibraryFault, LibraryUnaccepted, Raised, Memory, Steps, Unsaved, Unresumed}
 use Rattle.run_commands.specs.declared.ready.Ready.{Ready}
 use Rattle.run_commands.specs.Base.{base_of}
 use Rattle.command_files.specs.mpy_endings.Ending.{is_folder_fault, is_out_fault, status_of}
@@ -73,6 +75,7 @@ RefusesLibrary files name (Stopped Raised) = ⊥
 RefusesLibrary files name (Stopped Memory) = ⊥
 RefusesLibrary files name (Stopped (Steps count)) = ⊥
 RefusesLibrary files name (Stopped Unsaved) = ⊥
+RefusesLibrary files name (Stopped (Unresumed fault)) = ⊥
 RefusesLibrary files name ReadFault = Unit {0}
 RefusesLibrary files name WriteFault = ⊥
 RefusesLibrary files name Unwritten = ⊥
@@ -121,6 +124,7 @@ IsUnloaded (Stopped Raised) = ⊥
 IsUnloaded (Stopped Memory) = ⊥
 IsUnloaded (Stopped (Steps count)) = ⊥
 IsUnloaded (Stopped Unsaved) = ⊥
+IsUnloaded (Stopped (Unresumed fault)) = ⊥
 IsUnloaded ReadFault = Unit {0}
 IsUnloaded WriteFault = ⊥
 IsUnloaded Unwritten = ⊥
@@ -161,6 +165,7 @@ module _ (Comes : Result Ready Ending → Type 0) (room : Room) (steps : ℕ) (o
   Runs (Stopped Memory) = RanLibrary ends.Memory
   Runs (Stopped (Steps count)) = RanLibrary ends.Limit × (count ≡ steps)
   Runs (Stopped Unsaved) = ⊥
+  Runs (Stopped (Unresumed fault)) = ⊥
   Runs ReadFault = NotLoaded ReadFault
   Runs WriteFault = RanLibrary ends.WriteFault
   Runs Unwritten = ⊥
@@ -177,7 +182,9 @@ sight_in outside ports = record { out = outside.out; ports = ports }
 
 -- A run of the library that comes so of the folder's files and of this name ended so: why, with what printed and what the ports tell,
 -- which count of faults rose, and what was said, in the run and behind it.
-pub record EndsRun (Comes : Option FileOf → (name : List ℕ) → Result Ready Ending → Type 0) (room : Room) (steps : ℕ) (name : List ℕ) (old new : Outside) (ports_old ports_new : List PortView) (status : ℕ) : Type 0 where
+pub record EndsRun (Comes : Option FileOf → (name : List ℕ) → Result Ready Ending
+    → Type 0) (room : Room) (steps : ℕ) (name : List ℕ) (old new : Outside) (ports_old ports_new : List PortView)
+    (status : ℕ) : Type 0 where
   pub ending : Ending
   pub said : List ℕ
   pub status_is : status ≡ status_of ending

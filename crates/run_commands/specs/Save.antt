@@ -73,7 +73,8 @@ module _ (Comes : Result Ready Ending → Type 0) (room : Room) (steps : ℕ) (o
   RunsSaving snap files_old files_new ending = Runs Comes room steps old new said ending × (files_new ≡ files_old)
 
 -- how a run ended, whose state is saved to a file, if one is named, and what the folder's files became
-abbrev pub RunsTo : (snap : Option (List ℕ)) → (Comes : Result Ready Ending → Type 0) → Room → (steps : ℕ) → (old new : Sight) → (said : List ℕ) → (files_old files_new : Option FileOf) → Ending → Type 0
+abbrev pub RunsTo : (snap : Option (List ℕ)) → (Comes : Result Ready Ending → Type 0) → Room → (steps : ℕ) → (old new : Sight)
+    → (said : List ℕ) → (files_old files_new : Option FileOf) → Ending → Type 0
 RunsTo None Comes room steps old new said files_old files_new ending = Runs Comes room steps old new said ending × (files_new ≡ files_old)
 RunsTo (Some snap) Comes room steps old new said files_old files_new ending = RunsSaving Comes room steps old new said snap files_old files_new ending
 
@@ -85,7 +86,9 @@ place_to save ending = 1
 -- A run of the library that comes so of the folder's files and of this name ended so, and its state was saved to the other name where it took
 -- all its steps: why, with what printed, what the ports tell and what in the folder, which count of faults rose, and what was said, in
 -- the run and behind it.
-pub record EndsSaving (Comes : Option FileOf → (name : List ℕ) → Result Ready Ending → Type 0) (room : Room) (steps : ℕ) (name snap : List ℕ) (old new : Outside) (ports_old ports_new : List PortView) (status : ℕ) : Type 0 where
+pub record EndsSaving (Comes : Option FileOf → (name : List ℕ) → Result Ready Ending
+    → Type 0) (room : Room) (steps : ℕ) (name snap : List ℕ) (old new : Outside) (ports_old ports_new : List PortView)
+    (status : ℕ) : Type 0 where
   pub ending : Ending
   pub said : List ℕ
   pub status_is : status ≡ status_of ending
@@ -95,6 +98,7 @@ pub record EndsSaving (Comes : Option FileOf → (name : List ℕ) → Result Re
   pub says : Says old.say new.say old.say_faults new.say_faults (said ++ line_of (name_in name snap ending) ending)
 
 -- a run ended so, whose state is saved to a file, if one is named
-abbrev pub EndsRunTo : (snap : Option (List ℕ)) → (Comes : Option FileOf → (name : List ℕ) → Result Ready Ending → Type 0) → Room → (steps : ℕ) → (name : List ℕ) → (old new : Outside) → (ports_old ports_new : List PortView) → (status : ℕ) → Type 0
+abbrev pub EndsRunTo : (snap : Option (List ℕ)) → (Comes : Option FileOf → (name : List ℕ) → Result Ready Ending → Type 0) → Room
+    → (steps : ℕ) → (name : List ℕ) → (old new : Outside) → (ports_old ports_new : List PortView) → (status : ℕ) → Type 0
 EndsRunTo None Comes room steps name = EndsRun Comes room steps name
 EndsRunTo (Some snap) Comes room steps name = EndsSaving Comes room steps name snap

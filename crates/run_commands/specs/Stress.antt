@@ -43,7 +43,14 @@ front_lines bytes number = (codes "source " ++ decimal bytes ++ codes " bytes\n"
 
 -- two sinks and a folder that tells nothing and has these faults
 abbrev pub sinks : (faults : ℕ) → (out : Option (List ℕ)) → (out_faults : ℕ) → (say : Option (List ℕ)) → (say_faults : ℕ) → (files : Option FileOf) → Outside
-sinks faults out out_faults say say_faults files = record { files = files; folder_faults = faults; out = out; out_faults = out_faults; say = say; say_faults = say_faults }
+sinks faults out out_faults say say_faults files = record {
+  files = files;
+  folder_faults = faults;
+  out = out;
+  out_faults = out_faults;
+  say = say;
+  say_faults = say_faults;
+}
 
 -- of the source with this seed and this count of assignments
 module _ (seed count : ℕ) where
@@ -57,7 +64,14 @@ module _ (seed count : ℕ) where
 
   -- the outside of its run, when this was printed: a folder has the source alone
   abbrev pub beside : (old : Outside) → (printed : Option (List ℕ)) → Outside
-  beside old printed = record { files = Some (stress_files seed count); folder_faults = old.folder_faults; out = printed; out_faults = old.out_faults; say = old.say; say_faults = old.say_faults }
+  beside old printed = record {
+    files = Some (stress_files seed count);
+    folder_faults = old.folder_faults;
+    out = printed;
+    out_faults = old.out_faults;
+    say = old.say;
+    say_faults = old.say_faults;
+  }
 
   module _ (room : Room) (steps : ℕ) (old new : Outside) (ports_old ports_new : List PortView) (status : ℕ) where
     -- `go` of the source ended so, behind what was printed

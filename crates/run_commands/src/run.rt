@@ -29,7 +29,7 @@ use port_set::PortSet;
 use std::alloc::Global;
 
 /// Whether bytes begin as those of an image.
-fn begins_image(bytes: &[u8]) -> bool
+pub(crate) fn begins_image(bytes: &[u8]) -> bool
     ensures { result ≡ starts.begins_image bytes.now }
 {
     match bytes {
@@ -63,7 +63,7 @@ pub(crate) fn load_ending(refused: Refused<LoadFault>) -> Ending
 }
 
 /// The library of the file of this name, which has these bytes, or what keeps it from being loaded.
-fn file_library<F: Folder>(
+pub(crate) fn file_library<F: Folder>(
     alloc: Global,
     name: &str,
     bytes: &[u8],

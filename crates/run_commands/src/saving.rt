@@ -26,7 +26,7 @@ use snap_saving::{SaveFault, save};
 use std::alloc::Global;
 
 /// Writes the snapshot of a machine's state, which took these steps, under this name.
-fn save_state<F: Folder>(
+pub(crate) fn save_state<F: Folder>(
     alloc: Global,
     library: &Library,
     vm: &Vm,
@@ -64,7 +64,9 @@ pub fn run_saving<F: Folder, S: Sink, P: Port, E: Sink>(
     requires holds { IfOk loaded (λ ready. HoldsModules ready.library) }
     requires unloaded { IfErr loaded IsUnloaded }
     ensures went { (said : List ℕ)
-        × RunsSaving (λ ready. ready ≡ loaded) room steps (sight S.told P.seen out.old ports.old) (sight S.told P.seen out.new ports.new) said snap.now (F.files folder.old) (F.files folder.new) result
+        × RunsSaving (λ ready. ready
+        ≡ loaded) room steps (sight S.told P.seen out.old ports.old) (sight S.told P.seen out.new ports.new) said snap.now
+        (F.files folder.old) (F.files folder.new) result
         × Says (E.told say.old) (E.told say.new) (E.count say.old) (E.count say.new) said }
     ensures flushed { IsRunStatus (status_of result) → S.held out.new ≡ [] }
     ensures handed_on { result ≡ Stopped Unsaved → S.held out.new ≡ [] }

@@ -97,10 +97,12 @@ module _ (program : Program) (library : Library) where
   abbrev pub FollowsImports : (names : Val) → (target : Name → Name) → Type 0
   FollowsImports names target =
       (site : Site) (line p : ℕ) (name : Name) (env : Locals) (slots : List Slot) (depth t : ℕ) (w : PlainWorld)
-      → Sited library site → Has site.context line p (Names ops.ImportName name) → Quiet site.frame.entries (suc p) (suc p) → Fits site.frame.entries (length slots) → t ≤ depth
+      → Sited library site → Has site.context line p (Names ops.ImportName name) → Quiet site.frame.entries (suc p) (suc p)
+      → Fits site.frame.entries (length slots) → t ≤ depth
       → InOrder library (standing site p env (Value names ∷ Value (Int (pos 0)) ∷ slots) w)
       → GoesTo library (λ done w1. standing site (suc p) env (Value (module_named w1 (target name)) ∷ slots) w1) site env slots
-      (standing site p env (Value names ∷ Value (Int (pos 0)) ∷ slots) w) t 5 (import_name program (sem program depth).exec site.meant (place_at site.meant line) name t w)
+      (standing site p env (Value names ∷ Value (Int (pos 0))
+      ∷ slots) w) t 5 (import_name program (sem program depth).exec site.meant (place_at site.meant line) name t w)
 
 -- no loop is around the body of a text
 abbrev pub outside : (last : ℕ) → Around
@@ -113,7 +115,16 @@ pub record HasSite (library : Library) (name : Name) (number : ℕ) (text : Text
   pub sited : Sited library site
   pub meant :
       site.meant
-      ≡ record { file = text.file; name = text.name; level = text.level; module_name = name; names = names; base = text.base; locals = text.locals; depth = suc (length waiting) }
+      ≡ record {
+        file = text.file;
+        name = text.name;
+        level = text.level;
+        module_name = name;
+        names = names;
+        base = text.base;
+        locals = text.locals;
+        depth = suc (length waiting);
+      }
   pub frame : site.frame ≡ new_frame name number site.code [] names role
   pub waits : site.waiting ≡ waiting
   pub last : ℕ

@@ -54,7 +54,8 @@ pub record Sited (library : Library) (site : Site) : Type 0 where
   pub shift : ℕ
   pub children : (i number : ℕ) → slice_get site.context.children i ≡ Some number → slice_get site.code.children i ≡ Some (shift + number)
   pub base : site.meant.base ≡ shift + site.context.base
-  pub codes : (number : ℕ) (code : Code) → slice_get site.context.codes number ≡ Some code → slice_get site.holder.codes (shift + number) ≡ Some (shifted shift code)
+  pub codes : (number : ℕ) (code : Code) → slice_get site.context.codes number ≡ Some code
+      → slice_get site.holder.codes (shift + number) ≡ Some (shifted shift code)
   -- the code has a slot for each local
   pub rooms : length site.context.locals ≤ site.code.locals
 

@@ -36,13 +36,15 @@ pub fn calls_law()
 /// Each import of a dotted name: with None the first module is given, and with names the last.
 pub fn imports_law()
     ensures first { (program : Program) (library : Library) → Links program library → FollowsImports program library Nil (λ name. first_of (prefixes name)) }
-    ensures last { (program : Program) (library : Library) → Links program library → (names : Val) → (names ≡ Nil → ⊥) → FollowsImports program library names (λ name. last_of (prefixes name)) }
+    ensures last { (program : Program) (library : Library) → Links program library → (names : Val) → (names ≡ Nil → ⊥)
+        → FollowsImports program library names (λ name. last_of (prefixes name)) }
 {}
 
 /// Each state of a run is in order, as these laws ask.
 pub fn order_law()
     ensures step { (library : Library) (s : State) → InOrder library s → InOrder library (step library s) }
-    ensures runs { (library : Library) (name : Name) (cells bytes : ℕ) (ports : List PortState) (n : ℕ) → InOrder library (steps library n (start library name (new_world cells bytes ports))) }
+    ensures runs { (library : Library) (name : Name) (cells bytes : ℕ) (ports : List PortState) (n : ℕ)
+        → InOrder library (steps library n (start library name (new_world cells bytes ports))) }
 {}
 
 /// Each text of a program has its code in a library of its modules, and where a frame begins on that code both sides run the

@@ -7,7 +7,8 @@ use Rattle.bc_progress.specs.mpy_base.Val.{Val, Built}
 use Rattle.bc_progress.specs.py_values.Shown.{PlainHeap}
 use Rattle.bc_progress.specs.py_primitives.Iterables.{items_in}
 use Rattle.bc_progress.specs.py_effects.Modules.{last_part}
-use Rattle.bc_progress.specs.bc_machine.State.{Slot, Value, Null, Object, Iter, KeptReturn, KeptJump, Entry, Role, Main, Called, Imported, Frame, State, Running, Halted, Stuck, cut}
+use Rattle.bc_progress.specs.bc_machine.State.{Slot, Value, Null, Object, Iter, KeptReturn, KeptJump, Entry, Role, Main, Called}
+use Rattle.bc_progress.specs.bc_machine.State.{Imported, Frame, State, Running, Halted, Stuck, cut}
 use Rattle.bc_progress.specs.Known.{HasMethod}
 use Rattle.snap_kept.specs.Texts.{IsName}
 use Rattle.snap_kept.specs.Values.{IsNamespace, IsPlain}

@@ -1,7 +1,9 @@
 -- Values that may stand anywhere, and what objects hold.
 use Rattle.std.specs.Prelude.{◌≡◌, ◌⊎◌, ℕ, ◌+◌, ◌≤◌, List, [], ◌∷◌, length, false, Option, Some, None, IsSome, codes}
 use Rattle.std.specs.List.{AllByRecursion as Each}
-use Rattle.bc_progress.specs.mpy_base.World.{Object, ListObject, TupleObject, TextObject, DictObject, FunctionObject, ExceptionObject, MethodObject, RangeObject, ModuleObject, ADict, object, names_of, IsA}
+use Rattle.bc_progress.specs.mpy_base.World.{Object, ListObject, TupleObject, TextObject, DictObject, FunctionObject}
+use Rattle.bc_progress.specs.mpy_base.World.{ExceptionObject, MethodObject, RangeObject, ModuleObject, ADict, object, names_of}
+use Rattle.bc_progress.specs.mpy_base.World.{IsA}
 use Rattle.bc_progress.specs.mpy_base.Weights.{cells_of}
 use Rattle.bc_progress.specs.mpy_base.Val.{Val, Nil, Truth, Int, Str, Fixed, Empty, Built, At}
 use Rattle.bc_progress.specs.py_values.Shown.{PlainHeap, Shown, Tuple, shown}

@@ -24,4 +24,5 @@ LeadsOn a t it (suc d) (e ∷ es) st = LeadsOn a t it d es (cut e.height st)
 abbrev pub JumpsLeadOn : Assigned → List Entry → Stack → Type 0
 JumpsLeadOn a [] st = Unit {0}
 JumpsLeadOn a (e ∷ es) st =
-    ((above rest : Stack) (t d : ℕ) (it : Bool) → st ≡ above ++ KeptJump t d it ∷ rest → length rest ≡ e.height → LeadsOn a t it d es rest) × JumpsLeadOn a es (cut e.height st)
+    ((above rest : Stack) (t d : ℕ) (it : Bool) → st ≡ above ++ KeptJump t d it ∷ rest → length rest ≡ e.height → LeadsOn a t it d es rest)
+    × JumpsLeadOn a es (cut e.height st)

@@ -6,7 +6,8 @@ use Rattle.bc_machine.specs.py_effects.Ends.{End}
 use Rattle.bc_machine.specs.mpy_tree.Raw as raw
 use Rattle.bc_machine.specs.mpy_tree.Resolved.{ResolvedModule, Resolves}
 use Rattle.bc_machine.specs.Library.{Name, Item, Loads, Line, Module, Holds, Library, entry_in, code_at, module_of}
-use Rattle.bc_machine.specs.State.{Slot, Value, Null, Object, Iter, KeptReturn, KeptJump, Entry, Role, Main, Called, Imported, Frame, State, Running, Halted, Stuck}
+use Rattle.bc_machine.specs.State.{Slot, Value, Null, Object, Iter, KeptReturn, KeptJump, Entry, Role, Main, Called, Imported}
+use Rattle.bc_machine.specs.State.{Frame, State, Running, Halted, Stuck}
 use Rattle.bc_machine.specs.Step.{line_at}
 use Rattle.snap_laws.specs.Renamed.{Renaming, value}
 use Rattle.snap_laws.specs.Worlds.{IsWorld, locals_as, end_as}

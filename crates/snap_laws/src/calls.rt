@@ -12,10 +12,12 @@ ghost use Rattle.snap_laws.specs.Outcomes.{IsOutcome, fault_as};
 
 /// A call of a built-in does the same.
 pub fn calls_law()
-    ensures { (r : Renaming) (h k : PlainHeap) (b : Builtin) (args : List Val) (keys : List (Val × Val)) → IsRenamed r h k → IsOutcome r (value r) (call h b args keys) (call k b (map (value r) args) (map (pair r) keys)) }
+    ensures { (r : Renaming) (h k : PlainHeap) (b : Builtin) (args : List Val) (keys : List (Val × Val)) → IsRenamed r h k
+        → IsOutcome r (value r) (call h b args keys) (call k b (map (value r) args) (map (pair r) keys)) }
 {}
 
 /// The exception of a fault is made alike.
 pub fn faults_law()
-    ensures { (r : Renaming) (h k : PlainHeap) (fault : Fault) → IsRenamed r h k → IsOutcome r (value r) (making_fault h fault) (making_fault k (fault_as r fault)) }
+    ensures { (r : Renaming) (h k : PlainHeap) (fault : Fault) → IsRenamed r h k
+        → IsOutcome r (value r) (making_fault h fault) (making_fault k (fault_as r fault)) }
 {}

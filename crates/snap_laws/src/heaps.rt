@@ -18,7 +18,8 @@ pub fn sight_law()
 /// Heaps stay so where an object is put into the place of one, where cells are used, and where one is made, which has the same number in
 /// both.
 pub fn heap_law()
-    ensures set { (r : Renaming) (h k : PlainHeap) (n : ℕ) (o : Object Val (List ℕ)) → IsRenamed r h k → IsRenamed r (with_object h n o) (with_object k (r.to n) (object_as r o)) }
+    ensures set { (r : Renaming) (h k : PlainHeap) (n : ℕ) (o : Object Val (List ℕ)) → IsRenamed r h k
+        → IsRenamed r (with_object h n o) (with_object k (r.to n) (object_as r o)) }
     ensures used { (r : Renaming) (h k : PlainHeap) (cells : ℕ) → IsRenamed r h k → IsRenamed r (with_used h cells) (with_used k cells) }
     ensures made { (r : Renaming) (h k : PlainHeap) (o : Object Val (List ℕ)) → IsRenamed r h k → IsRenamed r (with_made h o) (with_made k (object_as r o)) }
     ensures number { (r : Renaming) (h k : PlainHeap) → IsRenamed r h k → value r (At (used h)) ≡ At (used k) }

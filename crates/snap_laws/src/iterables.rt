@@ -15,5 +15,6 @@ pub fn iterables_law()
     ensures length { (r : Renaming) (h k : PlainHeap) (v : Val) → IsRenamed r h k → length_of k (value r v) ≡ length_of h v }
     ensures item { (r : Renaming) (h k : PlainHeap) (v : Val) (at : ℕ) → IsRenamed r h k → IsOutcome r (value r) (item_of h v at) (item_of k (value r v) at) }
     ensures iterable { (r : Renaming) (h k : PlainHeap) (v : Val) → IsRenamed r h k → IsOutcome r (value r) (use_iter h v) (use_iter k (value r v)) }
-    ensures unpacked { (r : Renaming) (h k : PlainHeap) (want : ℕ) (v : Val) → IsRenamed r h k → IsOutcome r (map (value r)) (unpack h want v) (unpack k want (value r v)) }
+    ensures unpacked { (r : Renaming) (h k : PlainHeap) (want : ℕ) (v : Val) → IsRenamed r h k
+        → IsOutcome r (map (value r)) (unpack h want v) (unpack k want (value r v)) }
 {}

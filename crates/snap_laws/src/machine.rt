@@ -18,7 +18,8 @@ pub fn constants_law()
 /// Behind a step, and behind any number of steps, the states still differ by the same renaming.
 pub fn step_law()
     ensures step { (r : Renaming) (library : Library) (s t : State) → KeepsConstants r library → IsState r s t → IsState r (step library s) (step library t) }
-    ensures steps { (r : Renaming) (library : Library) (n : ℕ) (s t : State) → KeepsConstants r library → IsState r s t → IsState r (steps library n s) (steps library n t) }
+    ensures steps { (r : Renaming) (library : Library) (n : ℕ) (s t : State) → KeepsConstants r library → IsState r s t
+        → IsState r (steps library n s) (steps library n t) }
 {}
 
 /// Such states have the same output and ports, end alike, and the report of their ends is the same.

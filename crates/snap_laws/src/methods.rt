@@ -10,5 +10,7 @@ ghost use Rattle.snap_laws.specs.Outcomes.{IsOutcome};
 
 /// A call of a method does the same.
 pub fn methods_law()
-    ensures { (r : Renaming) (h k : PlainHeap) (method : Builtin) (object : Val) (args : List Val) (keys : List (Val × Val)) → IsRenamed r h k → IsOutcome r (value r) (call_method h method object args keys) (call_method k method (value r object) (map (value r) args) (map (pair r) keys)) }
+    ensures { (r : Renaming) (h k : PlainHeap) (method : Builtin) (object : Val) (args : List Val) (keys : List (Val × Val))
+        → IsRenamed r h k → IsOutcome r (value r) (call_method h method object args keys)
+        (call_method k method (value r object) (map (value r) args) (map (pair r) keys)) }
 {}

@@ -11,6 +11,8 @@ ghost use Rattle.snap_laws.specs.Outcomes.{IsOutcome, IsPortOutcome};
 
 /// The same bytes are printed, and the ports are told the same.
 pub fn output_law()
-    ensures printed { (r : Renaming) (h k : PlainHeap) (args : List Val) (keys : List (Val × Val)) → IsRenamed r h k → IsOutcome r (λ bytes. bytes) (printed h args keys) (printed k (map (value r) args) (map (pair r) keys)) }
-    ensures ports { (r : Renaming) (h k : PlainHeap) (ports : List PortState) (b : Builtin) (args : List Val) (keys : List (Val × Val)) → IsRenamed r h k → IsPortOutcome r (call_port h ports b args keys) (call_port k ports b (map (value r) args) (map (pair r) keys)) }
+    ensures printed { (r : Renaming) (h k : PlainHeap) (args : List Val) (keys : List (Val × Val)) → IsRenamed r h k
+        → IsOutcome r (λ bytes. bytes) (printed h args keys) (printed k (map (value r) args) (map (pair r) keys)) }
+    ensures ports { (r : Renaming) (h k : PlainHeap) (ports : List PortState) (b : Builtin) (args : List Val) (keys : List (Val × Val))
+        → IsRenamed r h k → IsPortOutcome r (call_port h ports b args keys) (call_port k ports b (map (value r) args) (map (pair r) keys)) }
 {}

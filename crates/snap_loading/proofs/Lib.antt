@@ -1,19 +1,39 @@
 mod Bridging
-pub mod Counting
 pub mod Counted
+pub mod Counting
+pub mod Entitled
+mod Filing
 pub mod Filled
 pub mod Finding
+mod Gathering
 pub mod Hollowing
+mod Joining
 pub mod Knowing
 pub mod Lying
+pub mod Matching
 pub mod Mixing
 pub mod Numbered
 pub mod Numbering
+mod PaidToo
 pub mod Putting
 mod Registering
+mod Resuming
 mod Returning
+mod Saming
+mod Saving
+mod Settled
 mod Showing
 mod Slotting
+mod Solely
 mod Standing
 mod Stated
 pub mod Valuing
+pub mod Besides
+pub mod Stacking
+mod Wherever
+mod Placing
+pub mod Emptied
+mod Judged
+mod Laying
+pub mod Readied
+mod Roomy

@@ -41,7 +41,7 @@ use Rattle.snap_loading.proofs.Valuing.{at_within, object_back}
 abbrev pub Marks : Type 0
 Marks = (code : flow.Code) (a b : Assigned) (p : ℕ) (x : At) → IsLeastOf code a → Holds code b → a p ≡ Some x → map (remark p) x.entries ≡ x.entries
 
-no_tables : Shelf → Tables
+pub no_tables : Shelf → Tables
 no_tables shelf = record { texts = text_at shelf; tuples = items_at shelf; module_name = λ i. []; starts = λ i k. [] }
 
 module _ (marks : Marks) (shelf : Shelf) (s : Snapshot) (title : ℕ → ℕ → ℕ) (is : IsLibrary shelf) (run : IsRunnable shelf) (shaped : IsShaped shelf s) where

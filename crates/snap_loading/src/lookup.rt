@@ -7,6 +7,7 @@ ghost use Rattle.snap_states.specs.Decoded as decoded;
 ghost use Rattle.snap_states.specs.Parts.{cell_of, cells_of_part, cells_of_parts};
 ghost use Rattle.snap_loading.specs.Looked.{AreCells, IsLookup};
 
+use crate::strs::{Strs, strs_of};
 use arena_heap::{
     DictNo, ExcNo, FunNo, ListNo, MethodNo, ModuleNo, RangeNo, TextNo, TupleNo, Value,
 };
@@ -22,6 +23,8 @@ pub(crate) struct Lookup<'a> {
     pub snapshot: &'a Snapshot,
     /// The first cell of each object, and the cell behind all of them.
     pub cells: Vec<u32>,
+    /// The constant strs of the library.
+    pub strs: Strs,
 }
 
 /// How many cells an object takes.
@@ -86,10 +89,12 @@ impl<'a> Lookup<'a> {
         ensures snapshot { IfOk result (λ lookup. lookup.snapshot.now ≡ snapshot.now) }
     {
         let cells = cells_of(alloc, snapshot.objects.as_slice())?;
+        let strs = strs_of(alloc, library)?;
         Ok(Lookup {
             library,
             snapshot,
             cells,
+            strs,
         })
     }
 }

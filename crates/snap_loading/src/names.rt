@@ -45,7 +45,7 @@ pub(crate) fn name_number(library: &Library, text: &[u8]) -> u32
 }
 
 /// The number of a module's name, 0 where the library has no such module.
-fn module_title(library: &Library, module: u32) -> u32
+pub(crate) fn module_title(library: &Library, module: u32) -> u32
     ensures { result ≡ decoded.module_title library.now «module» }
 {
     library_law(library);

@@ -38,8 +38,10 @@ pub fn shells_law()
 /// What a snapshot stands for whose conditions hold is a state of each program of the library, with its modules registered, and its slots
 /// and entries hold what the plans keep in them: so the machine runs it as it runs its own.
 pub fn safe_law()
-    ensures { (shelf : Shelf) (s : Snapshot) (heap : Heap Value ℕ) (modules : Registry) (calls : Calls) (p : Program) → IsLibrary shelf → Fits s → IsShaped shelf s → HasRows shelf s
-        → IsDecoded shelf s heap modules calls.calls → IsProgramOf shelf p → HasRooms p calls → IsState p heap.objects calls × AreRegistered p heap modules × HoldsKept p heap.objects calls }
+    ensures { (shelf : Shelf) (s : Snapshot) (heap : Heap Value ℕ) (modules : Registry) (calls : Calls) (p : Program) → IsLibrary shelf
+        → Fits s → IsShaped shelf s → HasRows shelf s
+        → IsDecoded shelf s heap modules calls.calls → IsProgramOf shelf p → HasRooms p calls
+        → IsState p heap.objects calls × AreRegistered p heap modules × HoldsKept p heap.objects calls }
 {
     frames_law();
     rooms_law();

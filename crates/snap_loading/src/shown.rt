@@ -17,7 +17,8 @@ use snap_laws::frames_law;
 
 /// The snapshot of what a snapshot stands for whose conditions hold is that snapshot.
 pub fn shown_law()
-    ensures { (shelf : Shelf) (s : Snapshot) (heap : Heap Value ℕ) (modules : Registry) (calls : List Call) → IsLibrary shelf → IsRunnable shelf → IsShaped shelf s
+    ensures { (shelf : Shelf) (s : Snapshot) (heap : Heap Value ℕ) (modules : Registry) (calls : List Call) → IsLibrary shelf
+        → IsRunnable shelf → IsShaped shelf s
         → IsDecoded shelf s heap modules calls → snapshot_of shelf heap modules calls s.paid ≡ s }
 {
     frames_law();

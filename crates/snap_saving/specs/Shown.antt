@@ -1,11 +1,13 @@
 -- The snapshot of a state. A state numbers an object by the cells that were used when it was made; its snapshot has the count
 -- of the objects that were made before it, the object's place.
-use Rattle.std.specs.Prelude.{◌≡◌, ℕ, ◌+◌, List, [], ◌∷◌, length, position, slice_get, option_and_then, map, reverse, take, filter, Bool, true, false, not, Option, Some, None, is_some, unwrap_or, ◌==◌, if◌then◌else◌}
+use Rattle.std.specs.Prelude.{◌≡◌, ℕ, ◌+◌, List, [], ◌∷◌, length, position, slice_get, option_and_then, map, reverse, take}
+use Rattle.std.specs.Prelude.{filter, Bool, true, false, not, Option, Some, None, is_some, unwrap_or, ◌==◌, if◌then◌else◌}
 use Rattle.std.specs.Option.{option_map}
 use Rattle.std.specs.Str.{bytes_eq}
 use Rattle.std.specs.List.{filter_map}
 use Rattle.mpy_base.specs.Kind.{kind_name}
-use Rattle.mpy_base.specs.World.{Heap, ListObject, TupleObject, TextObject, DictObject, FunctionObject, ExceptionObject, MethodObject, RangeObject, ModuleObject}
+use Rattle.mpy_base.specs.World.{Heap, ListObject, TupleObject, TextObject, DictObject, FunctionObject, ExceptionObject}
+use Rattle.mpy_base.specs.World.{MethodObject, RangeObject, ModuleObject}
 use Rattle.mpy_base.specs.Weights.{used}
 use Rattle.prim_walks.specs.py_values.Names.{builtin_name}
 use Rattle.arena_heap.specs.declared.value.Value.{Value}

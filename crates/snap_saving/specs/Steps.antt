@@ -1,5 +1,6 @@
 -- The bytes of a snapshot, part by part, as they are added.
-use Rattle.std.specs.Prelude.{◌≡◌, ℕ, ◌+◌, ◌-◌, ◌≤◌, List, [], ◌++◌, length, filter, is_some, reverse, Option, Some, None, min, slice_get, slice_index, if◌then◌else◌}
+use Rattle.std.specs.Prelude.{◌≡◌, ℕ, ◌+◌, ◌-◌, ◌≤◌, List, [], ◌++◌, length, filter, is_some, reverse, Option, Some, None, min}
+use Rattle.std.specs.Prelude.{slice_get, slice_index, if◌then◌else◌}
 use Rattle.std.specs.List.{flat_map}
 use Rattle.std.specs.Int.{w64, to_le_bytes}
 use Rattle.mpy_base.specs.World.{Heap, object}
@@ -16,7 +17,8 @@ use Rattle.vm_frames.specs.Calls.{Call}
 use Rattle.prim_modules.specs.declared.entry.Entry.{Entry as Registered}
 use Rattle.prim_modules.specs.Registry.{Registry}
 use Rattle.snap_grammar.specs.Spelling as spelling
-use Rattle.snap_saving.specs.Shown.{place_in, value_part, object_part, local_part, slot_part, entry_part, frame_part, registered_part, role_part, is_shown, shown_slots}
+use Rattle.snap_saving.specs.Shown.{place_in, value_part, object_part, local_part, slot_part, entry_part, frame_part}
+use Rattle.snap_saving.specs.Shown.{registered_part, role_part, is_shown, shown_slots}
 
 -- the place of an object in a list of places, one for each cell, and for each further cell the last
 abbrev pub found : List ℕ → ℕ → ℕ

@@ -6,7 +6,8 @@ ghost use Rattle.mpy_base.specs.Vuint.{vuint};
 ghost use Rattle.snap_grammar.specs.Spelling.{if_kept, mark, role as role_spelling, slot as slot_spelling, takes_iterator};
 ghost use Rattle.snap_saving.specs.Saved.{IfFault, IsLong};
 ghost use Rattle.snap_saving.specs.Shown.{goes_on as goes_on_in, is_shown as is_shown_in, iterator_part, kept_part, role_part, shown_slots};
-ghost use Rattle.snap_saving.specs.Steps.{call_bytes, entries_bytes, entry_bytes, found, local_bytes, locals_bytes, running_bytes, shown_bytes, slot_bytes, slots_bytes, value_bytes};
+ghost use Rattle.snap_saving.specs.Steps.{call_bytes, entries_bytes, entry_bytes, found, local_bytes, locals_bytes};
+ghost use Rattle.snap_saving.specs.Steps.{running_bytes, shown_bytes, slot_bytes, slots_bytes, value_bytes};
 
 use crate::bytes::{is_long, put_byte, put_number};
 use crate::fault::SaveFault;

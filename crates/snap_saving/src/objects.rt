@@ -4,7 +4,8 @@ ghost use Rattle.std.specs.Prelude.{◌≡◌, ◌<◌, ◌∷◌, ◌++◌, opt
 ghost use Rattle.std.specs.List.{flat_map};
 ghost use Rattle.mpy_base.specs.Vuint.{vuint};
 ghost use Rattle.mpy_base.specs.Weights.{used};
-ghost use Rattle.mpy_base.specs.World.{AList, ADict, ATuple, AText, FunctionObject, ExceptionObject, MethodObject, RangeObject, ModuleObject, IsA, items_at, pairs_at, text_at};
+ghost use Rattle.mpy_base.specs.World.{AList, ADict, ATuple, AText, FunctionObject, ExceptionObject, MethodObject, RangeObject};
+ghost use Rattle.mpy_base.specs.World.{ModuleObject, IsA, items_at, pairs_at, text_at};
 ghost use Rattle.arena_heap.specs.Values.{BeginsAt};
 ghost use Rattle.bc_ops.specs.Signed.{signed};
 ghost use Rattle.snap_grammar.specs.Spelling.{text};
@@ -175,7 +176,8 @@ fn put_function(
     places: &[u32],
     parts: (u32, u32, u32, DictNo, Value),
 ) -> Result<(), NoMemory>
-    ensures { OnOk result (out.new.items ≡ out.old.items ++ object_bytes library.now (found places.now) (Some (FunctionObject parts.0 parts.1 parts.2 parts.3.cell parts.4))) }
+    ensures { OnOk result (out.new.items ≡ out.old.items
+        ++ object_bytes library.now (found places.now) (Some (FunctionObject parts.0 parts.1 parts.2 parts.3.cell parts.4))) }
 {
     out.push(5)?;
     put_number(out, module_of(library, parts.1))?;
@@ -209,7 +211,8 @@ fn put_exception(
     places: &[u32],
     parts: (Kind, Value, u32, u32, u32),
 ) -> Result<(), NoMemory>
-    ensures { OnOk result (out.new.items ≡ out.old.items ++ object_bytes library.now (found places.now) (Some (ExceptionObject parts.0 parts.1 parts.2 parts.3 parts.4))) }
+    ensures { OnOk result (out.new.items ≡ out.old.items
+        ++ object_bytes library.now (found places.now) (Some (ExceptionObject parts.0 parts.1 parts.2 parts.3 parts.4))) }
 {
     out.push(6)?;
     put_text(out, parts.0.name().as_bytes())?;
@@ -250,7 +253,8 @@ fn put_module(
     places: &[u32],
     parts: (u32, Option<DictNo>),
 ) -> Result<(), NoMemory>
-    ensures { OnOk result (out.new.items ≡ out.old.items ++ object_bytes library.now (found places.now) (Some (ModuleObject parts.0 (option_map (λ names. names.cell) parts.1)))) }
+    ensures { OnOk result (out.new.items ≡ out.old.items
+        ++ object_bytes library.now (found places.now) (Some (ModuleObject parts.0 (option_map (λ names. names.cell) parts.1)))) }
 {
     out.push(9)?;
     put_text(out, text_of(library, StrNo::Pool(parts.0)))?;

@@ -24,14 +24,14 @@ use Rattle.snap_grammar.specs.declared.parts.FramePart.{FramePart}
 use Rattle.snap_grammar.specs.declared.parts.Snapshot.{Snapshot}
 use Rattle.snap_states.specs.declared.shapes.Shapes.{Shapes}
 use Rattle.snap_states.specs.Shapes.{StandsAt}
-use Rattle.snap_states.specs.Frames.{AreShapes, FitsShape, HasParts, HasStack, StandsIn, assigned, is_call, is_call_op, is_import, is_import_op}
+use Rattle.snap_states.specs.Frames.{AreShapes, FitsShape, HasStack, StandsIn, assigned, is_call, is_call_op, is_import, is_import_op}
 use Rattle.snap_states.specs.States.{Waits, IsEntryAt, AreEntriesAt, ShowsParts, IsFineFrame, AreFineFrames}
 use Rattle.bc_library.specs.bc_flow.Machine.{Stack}
 use Rattle.bc_library.specs.bc_flow.Verified.{Assigned}
 use Rattle.snap_states.specs.Stacks.{jumps_lead_on}
 use Rattle.snap_states.specs.Fronts.{Lies, IsLowest, AreNone, StartOnce}
 use Rattle.snap_states.proofs.Told.{jumps_from, jumps_to, jumps_covers}
-use Rattle.snap_states.proofs.Shaping.{Same, same_stand, jumps_on}
+use Rattle.snap_states.proofs.Shaping.{same_stand, jumps_on}
 
 -- items and actions
 -- =================

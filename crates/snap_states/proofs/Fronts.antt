@@ -1,12 +1,10 @@
 -- What parts are on slots of these kinds, and what they can't be.
-use Rattle.std.proofs.Common.{◌≡◌, ℕ, zero, suc, ◌+◌, ◌-◌, ◌<◌, ◌≤◌, Bool, true, false, ◌&&◌, List, [], ◌∷◌, ◌++◌, length, reverse, take, drop, get_or, Option, Some, None, refl, sym, ap, subst, ◌∙◌, arith, append_assoc, length-append}
+use Rattle.std.proofs.Common.{◌≡◌, ℕ, zero, suc, ◌+◌, ◌-◌, ◌<◌, ◌≤◌, Bool, true, false, ◌&&◌, List, [], ◌∷◌, ◌++◌, length, reverse, take, drop, get_or, Some, None, refl, sym, ap, subst, ◌∙◌, arith, append_assoc, length-append}
 use Rattle.std.specs.Prelude.{slice_get, option_and_then, nat_eq, nat_lt, if◌then◌else◌}
-use Rattle.std.proofs.lemmas.Bool.{false≢true, true≢false, eqb-true, and_parts}
-use Rattle.std.proofs.lemmas.List.{drop-drop, take_more, reverse-append, length-reverse, take_all}
-use Rattle.mpy_base.specs.World.{AnException}
+use Rattle.std.proofs.lemmas.Bool.{false≢true, true≢false, eqb-true}
+use Rattle.std.proofs.lemmas.List.{drop-drop, take_more, reverse-append}
 use Rattle.bc_library.specs.bc_shapes.declared.kinds.Kind.{Kind}
 use Rattle.bc_library.specs.bc_shapes.declared.kinds.Kind.TheVariants as kinds
-use Rattle.bc_library.specs.bc_flow.Machine as flow
 use Rattle.bc_library.specs.bc_flow.Machine.{Slot, Stack, Value, NoneOrException, KeptReturn, KeptJump, Iter1, Iter2, Iter3, Iter4, Null, Method}
 use Rattle.bc_library.specs.Shelf.{Shelf}
 use Rattle.bc_flow.proofs.Sound.{Fit, val, none_v, none_c, none_b, ret, jump, p1, p2, p3, p4, null, method, Stands, empty, more, stands-length}
@@ -17,10 +15,10 @@ use Rattle.snap_grammar.specs.declared.parts.SlotPart.TheVariants as slots
 use Rattle.snap_grammar.specs.declared.parts.Snapshot.{Snapshot}
 use Rattle.snap_states.specs.declared.slots.Front.{Front}
 use Rattle.snap_states.specs.declared.slots.Front.TheVariants as fronts
-use Rattle.snap_states.specs.Stacks.{Covers, both_empty, same, caught, slot_as}
+use Rattle.snap_states.specs.Stacks.{Covers, both_empty, caught, slot_as}
 use Rattle.snap_states.specs.States as states
 use Rattle.snap_states.specs.States.{IsAt, IsPlain, IsOver, IsBound, ShowsParts}
-use Rattle.snap_states.specs.Fronts.{front_slots, front_more, is_open, is_single, is_iterating, iterator_in, begins_with_value, value_in, top_in, left_of, if_left, if_whole, over_of, StartOnce, IsCaught, Lies, GoesOn, IsFront, IsSlot, IsNoSlot, IsTaken, AreNone, IsLookUp, IsLowest}
+use Rattle.snap_states.specs.Fronts.{front_slots, front_more, is_open, is_single, is_iterating, iterator_in, begins_with_value, value_in, top_in, if_left, over_of, StartOnce, IsCaught, Lies, GoesOn, IsFront, IsSlot, IsNoSlot, IsTaken, AreNone, IsLookUp, IsLowest}
 use Rattle.snap_states.proofs.Told.{covers_refl, covers_append}
 
 -- the kinds of slots

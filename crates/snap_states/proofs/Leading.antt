@@ -1,5 +1,5 @@
 -- Jumps through entries, one after another.
-use Rattle.std.proofs.Common.{◌≡◌, ℕ, zero, suc, ◌+◌, ◌-◌, ◌<◌, ◌≤◌, Bool, true, false, not, ◌&&◌, List, [], ◌∷◌, length, map, get_or, drop, Option, Some, None, refl, sym, ap, subst, ◌∙◌, arith}
+use Rattle.std.proofs.Common.{◌≡◌, ℕ, zero, suc, ◌+◌, ◌-◌, ◌<◌, ◌≤◌, Bool, true, false, not, ◌&&◌, List, [], ◌∷◌, length, map, get_or, drop, Some, None, refl, sym, ap, ◌∙◌, arith}
 use Rattle.std.specs.Prelude.{nat_lt, ◌||◌, slice_get}
 use Rattle.std.proofs.lemmas.List.{drop_all, drop_more, length-map}
 use Rattle.bc_shapes.specs.declared.shape.Entry.{Entry}
@@ -8,7 +8,7 @@ use Rattle.bc_shapes.proofs.Loops.{drop_uncons}
 use Rattle.bc_shapes.proofs.Order.{entries_differ}
 use Rattle.std.proofs.lemmas.Bool.{ltb-true, lt-ltb, true≢false}
 use Rattle.bc_flow.specs.declared.walk.State.{State}
-use Rattle.bc_flow.specs.Machine.{Stack, KeptJump, cut, remark, is_run}
+use Rattle.bc_flow.specs.Machine.{Stack, KeptJump, cut, remark}
 use Rattle.bc_flow.specs.Verified.{Assigned, at, seen}
 use Rattle.bc_flow.specs.Views.{cell_of, table_of}
 use Rattle.snap_states.specs.declared.slot.Slot.{Slot as RustSlot}

@@ -1,15 +1,18 @@
 mod Examples
 pub mod Calling
+pub mod Causing
 pub mod Filling
 pub mod Finding
 pub mod Fitting
 pub mod Framing
 pub mod Fronts
 pub mod Gathering
+pub mod Grouping
 pub mod Judging
 pub mod Keying
 pub mod Leading
 pub mod Looping
+pub mod Ordering
 pub mod Owning
 pub mod Rooming
 pub mod Seeing

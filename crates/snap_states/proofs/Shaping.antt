@@ -1,21 +1,18 @@
 -- The shapes of a code, once.
-use Rattle.std.proofs.Common.{◌≡◌, ℕ, zero, suc, ◌+◌, ◌<◌, ◌≤◌, Bool, true, List, [], ◌∷◌, ◌++◌, length, map, drop, Option, Some, None, refl, sym, ap, subst, ◌∙◌, arith}
+use Rattle.std.proofs.Common.{◌≡◌, ℕ, zero, suc, ◌≤◌, Bool, List, [], ◌∷◌, length, drop, Option, Some, None, refl, sym, ap, subst, ◌∙◌, arith}
 use Rattle.std.specs.Prelude.{slice_get, option_and_then}
 use Rattle.std.proofs.lemmas.List.{length-map}
 use Rattle.mpy_base.specs.declared.limits.TheConstants.{MAX_CODE_BYTES}
 use Rattle.bc_library.specs.mpy_tree.bc_ops.declared.listing.Item.{Item}
 use Rattle.bc_library.specs.mpy_tree.bc_ops.Listing.{Lists}
-use Rattle.bc_library.specs.mpy_tree.bc_prelude.declared.prelude.Prelude.{Prelude}
-use Rattle.bc_library.specs.mpy_tree.declared.raw.RawCode.{out-RawCode}
 use Rattle.bc_library.specs.mpy_tree.Raw.{Module}
 use Rattle.bc_library.specs.mpy_tree.File.{IsModule}
 use Rattle.bc_library.specs.mpy_tree.Codes.{Placed, codes_of}
 use Rattle.bc_library.specs.bc_shapes.declared.kinds.Kind.{Kind}
 use Rattle.bc_library.specs.bc_shapes.declared.shape.Entry.{Entry}
 use Rattle.bc_library.specs.bc_shapes.Shape.{At, Below, same, value, cause, Belows, none, also, Under}
-use Rattle.bc_library.specs.bc_flow.Code.{Code}
 use Rattle.bc_library.specs.bc_flow.Edges.{iterator_if}
-use Rattle.bc_library.specs.bc_flow.Machine.{Stack, KeptJump, cut, is_run}
+use Rattle.bc_library.specs.bc_flow.Machine.{Stack, KeptJump, cut}
 use Rattle.bc_library.specs.bc_flow.Verified as verified
 use Rattle.bc_library.specs.bc_flow.Verified.{Assigned, Holds, IsLeastOf, Grows}
 use Rattle.bc_library.specs.bc_verify.Body.{Body, Says, body_of, flow_of}
@@ -28,11 +25,11 @@ use Rattle.bc_library.proofs.bc_verify_lemmas.mpy_tree_lemmas.Codes.{module_plac
 use Rattle.bc_rows.specs.Codes.{code_numbered}
 use Rattle.bc_rows.specs.declared.row.Row.{Row}
 use Rattle.bc_rows.specs.Rows.{IsRow}
-use Rattle.bc_labels.specs.Positions.{CodeList, Listed}
+use Rattle.bc_labels.specs.Positions.{CodeList}
 use Rattle.bc_labels.proofs.Pieces.{one}
 use Rattle.snap_states.specs.declared.shapes.Shapes.{Shapes}
 use Rattle.snap_states.specs.Shapes.{StandsAt, IsShapeAt, LeadsOn, JumpsLeadOn}
-use Rattle.snap_states.specs.Frames.{AreShapes, assigned}
+use Rattle.snap_states.specs.Frames.{AreShapes, HasKinds, assigned}
 use Rattle.snap_states.specs.Fronts.{StartOnce}
 
 -- codes of a library
@@ -164,3 +161,30 @@ same_stand shelf m k at x a s =
     let holds = subst (λ b. Holds (flow_of b) s.a) both.0 s.holds in
     let least = subst (λ b. IsLeastOf (flow_of b) s.a) both.0 s.least in
     record { body = both.0; offsets = both.1; on = least_same s.a (assigned x) (least (assigned x) a.holds) (a.least s.a holds) }
+
+-- the kinds at an offset
+-- ======================
+
+pub kinds_stand : (shelf : Shelf) (m k at : ℕ) (x : Shapes) (kinds : List Kind) → AreShapes shelf m k x → HasKinds x at kinds → (s : StandsAt shelf m k at) × (s.shape.slots ≡ kinds)
+kinds_stand shelf m k at x kinds a h = (
+  record {
+    placed = a.placed;
+    there = a.there;
+    body = body_of x.code;
+    offsets = x.offsets.items;
+    says = a.says;
+    a = assigned x;
+    holds = a.holds;
+    least = a.least;
+    position = h.position;
+    here = h.here;
+    shape = h.shape;
+    is = h.is;
+  },
+  h.slots,
+)
+
+pub stand_kinds : (shelf : Shelf) (m k at : ℕ) (x : Shapes) → AreShapes shelf m k x → (s : StandsAt shelf m k at) → HasKinds x at s.shape.slots
+stand_kinds shelf m k at x a s =
+    let one = same_stand shelf m k at x a s in
+    record { position = s.position; here = subst (λ z. slice_get z s.position ≡ Some at) one.offsets s.here; shape = s.shape; is = one.on s.position s.shape s.is; slots = refl }

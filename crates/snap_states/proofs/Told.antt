@@ -1,9 +1,9 @@
 -- What the tests of slots and jumps tell, and that slots which may be None or an exception serve wherever values do.
-use Rattle.std.proofs.Common.{◌≡◌, ℕ, zero, suc, ◌+◌, ◌-◌, ◌<◌, ◌≤◌, Bool, true, false, not, ◌&&◌, List, [], ◌∷◌, ◌++◌, length, map, take, drop, Option, Some, None, refl, sym, ap, subst, ◌∙◌, arith, length-append, length-drop, append_assoc}
+use Rattle.std.proofs.Common.{◌≡◌, ℕ, zero, suc, ◌+◌, ◌-◌, ◌<◌, Bool, true, false, not, List, [], ◌∷◌, ◌++◌, length, map, take, drop, Option, Some, None, refl, sym, ap, subst, ◌∙◌, arith, length-append}
 use Rattle.std.specs.Prelude.{nat_lt, ◌||◌}
 use Rattle.std.proofs.Math.Seq.{drop-append_seam}
 use Rattle.std.proofs.lemmas.List.{take-append-drop}
-use Rattle.std.proofs.lemmas.Bool.{and_parts, and_from, false≢true, true≢false, ltb-true, lt-ltb}
+use Rattle.std.proofs.lemmas.Bool.{and_parts, and_from, false≢true, ltb-true, lt-ltb}
 use Rattle.bc_shapes.specs.declared.kinds.Kind.{Kind}
 use Rattle.bc_shapes.specs.declared.kinds.Kind.TheVariants as kinds
 use Rattle.bc_shapes.specs.declared.kinds.Want.{Want}
@@ -16,7 +16,7 @@ use Rattle.bc_flow.specs.Machine.{Slot, Stack, Value, NoneOrException, KeptRetur
 use Rattle.bc_flow.specs.Verified.{Assigned}
 use Rattle.bc_flow.proofs.Sound.{Fit, val, none_v, none_c, none_b, ret, jump, p1, p2, p3, p4, null, method, Stands, empty, more, cut-length}
 use Rattle.snap_states.specs.Shapes.{IsShapeAt, LeadsOn, JumpsLeadOn}
-use Rattle.snap_states.specs.Stacks.{fits_kind, fit_kinds, is_shape_of, is_shape, arrives, passes, leads_on, top_leads_on, jump_leads_on, jumps_lead_on, Covers, both_empty, same, caught}
+use Rattle.snap_states.specs.Stacks.{fits_kind, fit_kinds, is_shape_of, is_shape, passes, leads_on, top_leads_on, jump_leads_on, jumps_lead_on, Covers, both_empty, same, caught}
 
 -- shapes
 -- ======

@@ -1,6 +1,7 @@
 -- The state that a snapshot stands for. Objects get the cells that they would have if each had been made in its last room: the
 -- cells that growing lists and dicts had left lie behind all of them.
-use Rattle.std.specs.Prelude.{◌≡◌, ℕ, zero, suc, ◌+◌, ◌-◌, Bool, true, false, List, [], ◌∷◌, ◌++◌, length, map, reverse, drop, replicate, Option, Some, None, unwrap_or, position, slice_get, bytes_eq, if◌then◌else◌}
+use Rattle.std.specs.Prelude.{◌≡◌, ℕ, zero, suc, ◌+◌, ◌-◌, Bool, true, false, List, [], ◌∷◌, ◌++◌, length, map, reverse, drop}
+use Rattle.std.specs.Prelude.{replicate, Option, Some, None, unwrap_or, position, slice_get, bytes_eq, if◌then◌else◌}
 use Rattle.std.specs.Option.{option_map, option_or}
 use Rattle.std.specs.List.{flat_map}
 use Rattle.mpy_base.specs.declared.builtin.Builtin.{Builtin}
@@ -9,7 +10,8 @@ use Rattle.mpy_base.specs.declared.kind.Kind.{Kind}
 use Rattle.mpy_base.specs.declared.kind.Kind.TheVariants as raised
 use Rattle.mpy_base.specs.declared.limits.TheConstants.{MAX_MODULES}
 use Rattle.mpy_base.specs.Kind.{kind_name}
-use Rattle.mpy_base.specs.World.{Heap, ListObject, TupleObject, TextObject, DictObject, FunctionObject, ExceptionObject, MethodObject, RangeObject, ModuleObject}
+use Rattle.mpy_base.specs.World.{Heap, ListObject, TupleObject, TextObject, DictObject, FunctionObject, ExceptionObject}
+use Rattle.mpy_base.specs.World.{MethodObject, RangeObject, ModuleObject}
 use Rattle.bc_library.specs.bc_shapes.declared.kinds.Kind.{Kind as SlotKind}
 use Rattle.bc_library.specs.bc_shapes.declared.kinds.Kind.TheVariants as kinds
 use Rattle.bc_library.specs.bc_verify.qstr_pool.Pool.{Texts, number_of}
@@ -102,7 +104,9 @@ module _ (shelf : Shelf) where
 
   -- a constant str: a text of the pool where there is one, so that names are that, and else a constant of a module
   abbrev pub str_of : List ℕ → StrNo
-  str_of text = unwrap_or (option_or (option_map strs.Pool (pool_number shelf.pool text)) (option_map strs.Object (constant_from 0 shelf.modules text))) (strs.Pool 0)
+  str_of text = unwrap_or
+      (option_or (option_map strs.Pool (pool_number shelf.pool text)) (option_map strs.Object (constant_from 0 shelf.modules text)))
+      (strs.Pool 0)
 
   -- the name of a module of the library
   abbrev pub module_title : ℕ → ℕ
@@ -133,6 +137,24 @@ abbrev pub name_in_part : Option ObjectPart → List ℕ
 name_in_part (Some (objects.Module name names)) = name
 name_in_part _ = []
 
+-- slots
+-- =====
+
+-- the lowest slots of an iterator, as many as that, the topmost first
+abbrev pub iterator_of : (count : ℕ) → Value → (at : ℕ) → List Slot
+iterator_of zero over at = []
+iterator_of (suc part) over at = stacked.Iter over at part ∷ iterator_of part over at
+
+-- a value or nothing in a slot of this kind: the second slot of a method's look-up has its own form
+abbrev pub filled : Option SlotKind → Value → Slot
+filled (Some kinds.Method) v = stacked.Object (Some v)
+filled _ v = stacked.Value v
+
+-- nothing in a slot of this kind
+abbrev pub vacant : Option SlotKind → Slot
+vacant (Some kinds.Method) = stacked.Object None
+vacant _ = stacked.Null
+
 module _ (shelf : Shelf) (s : Snapshot) where
   -- a value
   abbrev pub value_of : ValuePart → Value
@@ -156,8 +178,10 @@ module _ (shelf : Shelf) (s : Snapshot) where
   object_of title (objects.Dict room pairs) = DictObject (map pair_of pairs) room
   object_of title (objects.Tuple items) = TupleObject (map value_of items)
   object_of title (objects.Text bytes) = TextObject bytes
-  object_of title (objects.Function m code names defaults) = FunctionObject (title m code) (module_title shelf m) code (cell_of s.objects names) (value_of defaults)
-  object_of title (objects.Exception kind args file line name) = ExceptionObject (unwrap_or (kind_called kind) raised.Exception) (value_of args) (name_number shelf file) line (name_number shelf name)
+  object_of title (objects.Function m code names defaults) =
+      FunctionObject (title m code) (module_title shelf m) code (cell_of s.objects names) (value_of defaults)
+  object_of title (objects.Exception kind args file line name) =
+      ExceptionObject (unwrap_or (kind_called kind) raised.Exception) (value_of args) (name_number shelf file) line (name_number shelf name)
   object_of title (objects.Method o method) = MethodObject (value_of o) (unwrap_or (builtin_called method) builtins.Print)
   object_of title (objects.Range start stop step) = RangeObject start stop step
   object_of title (objects.Module name names) = ModuleObject (name_number shelf name) (Some (cell_of s.objects names))
@@ -194,27 +218,17 @@ module _ (shelf : Shelf) (s : Snapshot) where
 
   -- an entry of a handler
   abbrev pub handler_of : EntryPart → Entry
-  handler_of e = record { handler = e.handler; is_finally = e.is_finally; height = e.height; kept = option_map (λ number. record { cell = cell_of s.objects number }) e.kept }
+  handler_of e = record {
+    handler = e.handler;
+    is_finally = e.is_finally;
+    height = e.height;
+    kept = option_map (λ number. record { cell = cell_of s.objects number }) e.kept;
+  }
 
   -- a local. One that is neither a value nor empty is none of a state
   abbrev pub local_of : SlotPart → Option Value
   local_of (slots.Value v) = Some (value_of v)
   local_of _ = None
-
-  -- the lowest slots of an iterator, as many as that, the topmost first
-  abbrev pub iterator_of : (count : ℕ) → Value → (at : ℕ) → List Slot
-  iterator_of zero over at = []
-  iterator_of (suc part) over at = stacked.Iter over at part ∷ iterator_of part over at
-
-  -- a value or nothing in a slot of this kind: the second slot of a method's look-up has its own form
-  abbrev pub filled : Option SlotKind → Value → Slot
-  filled (Some kinds.Method) v = stacked.Object (Some v)
-  filled _ v = stacked.Value v
-
-  -- nothing in a slot of this kind
-  abbrev pub vacant : Option SlotKind → Slot
-  vacant (Some kinds.Method) = stacked.Object None
-  vacant _ = stacked.Null
 
   -- the slots of a part, the topmost first, where the topmost is of this kind
   abbrev pub slots_of : Option SlotKind → SlotPart → List Slot

@@ -6,11 +6,12 @@ use Rattle.bc_library.specs.mpy_tree.bc_ops.declared.instr.Instr.TheVariants as 
 use Rattle.bc_library.specs.mpy_tree.bc_ops.declared.listing.Item.{Item}
 use Rattle.bc_library.specs.mpy_tree.bc_ops.declared.listing.Item.TheVariants as items
 use Rattle.bc_library.specs.mpy_tree.Codes.{Placed}
+use Rattle.bc_library.specs.bc_shapes.declared.kinds.Kind.{Kind}
 use Rattle.bc_library.specs.bc_shapes.declared.shape.Entry.{Entry}
 use Rattle.bc_library.specs.bc_shapes.Shape.{At}
 use Rattle.bc_library.specs.bc_flow.Action.{action}
 use Rattle.bc_library.specs.bc_flow.Machine.{Stack}
-use Rattle.bc_library.specs.bc_flow.Verified.{Assigned, Holds, IsLeastOf, at}
+use Rattle.bc_library.specs.bc_flow.Verified.{Assigned, Holds, IsLeastOf, Reached, at}
 use Rattle.bc_library.specs.bc_flow.Views.{table_of}
 use Rattle.bc_library.specs.bc_verify.Body.{Says, body_of, flow_of}
 use Rattle.bc_library.specs.Shelf.{Shelf}
@@ -53,6 +54,15 @@ pub record AreShapes (shelf : Shelf) (m code : ℕ) (x : Shapes) : Type 0 where
   pub says : Says placed.bytes (body_of x.code) x.offsets.items
   pub holds : Holds (flow_of (body_of x.code)) (assigned x)
   pub least : IsLeastOf (flow_of (body_of x.code)) (assigned x)
+  pub reached : Reached (flow_of (body_of x.code)) (table_of x.states.items)
+
+-- the slots of the shape at an offset have these kinds, the topmost first
+pub record HasKinds (x : Shapes) (offset : ℕ) (kinds : List Kind) : Type 0 where
+  pub position : ℕ
+  pub here : slice_get x.offsets.items position ≡ Some offset
+  pub shape : At
+  pub is : assigned x position ≡ Some shape
+  pub slots : shape.slots ≡ kinds
 
 module _ (shelf : Shelf) (s : Snapshot) where
   -- all of a frame but its slots

@@ -1,5 +1,6 @@
 -- What slots are, from the topmost on: the least that they may be taken for.
-use Rattle.std.specs.Prelude.{◌≡◌, ◌≤◌, ℕ, Bool, true, false, List, [], ◌∷◌, ◌++◌, length, drop, Option, Some, None, slice_get, option_and_then, nat_eq, nat_lt, ◌&&◌, if◌then◌else◌}
+use Rattle.std.specs.Prelude.{◌≡◌, ◌≤◌, ℕ, Bool, true, false, List, [], ◌∷◌, ◌++◌, length, drop, Option, Some, None, slice_get}
+use Rattle.std.specs.Prelude.{option_and_then, nat_eq, nat_lt, ◌&&◌, if◌then◌else◌}
 use Rattle.mpy_base.specs.World.{AnException}
 use Rattle.bc_library.specs.bc_shapes.declared.kinds.Kind.{Kind}
 use Rattle.bc_library.specs.bc_shapes.declared.kinds.Kind.TheVariants as kinds

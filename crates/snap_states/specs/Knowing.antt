@@ -1,5 +1,6 @@
 -- What is known of a library and a snapshot while conditions are decided.
-use Rattle.std.specs.Prelude.{◌≡◌, ◌↔◌, ◌⊎◌, ℕ, ◌<◌, ◌||◌, if◌then◌else◌, nat_eq, Bool, true, false, List, [], length, Option, Some, None, IsTrue, slice_get, option_and_then}
+use Rattle.std.specs.Prelude.{◌≡◌, ◌↔◌, ◌⊎◌, ℕ, ◌<◌, ◌||◌, if◌then◌else◌, nat_eq, Bool, true, false, List, [], length, Option}
+use Rattle.std.specs.Prelude.{Some, None, IsTrue, slice_get, option_and_then}
 use Rattle.std.specs.List.{filter_map, flat_map, list_any}
 use Rattle.std.specs.Str.{bytes_eq}
 use Rattle.arena_heap.specs.declared.value.StrNo.TheVariants as strs

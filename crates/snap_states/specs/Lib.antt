@@ -1,6 +1,7 @@
 pub mod Decoded
 pub mod Frames
 pub mod Fronts
+pub mod Grouped
 pub mod Held
 pub mod Knowing
 pub mod Parts

@@ -1,12 +1,13 @@
 -- Slots of frames against the shapes of positions, as tests.
-use Rattle.std.specs.Prelude.{ℕ, zero, suc, ◌-◌, Bool, true, false, not, ◌&&◌, ◌||◌, List, [], ◌∷◌, length, map, drop, Option, Some, None, nat_lt, if◌then◌else◌}
+use Rattle.std.specs.Prelude.{ℕ, zero, suc, Bool, true, false, not, ◌&&◌, ◌||◌, List, [], ◌∷◌, length, map, drop, Option}
+use Rattle.std.specs.Prelude.{Some, None, nat_lt}
 use Rattle.bc_shapes.specs.declared.kinds.Kind.{Kind}
 use Rattle.bc_shapes.specs.declared.kinds.Kind.TheVariants as kinds
 use Rattle.bc_shapes.specs.declared.shape.Entry.{Entry}
 use Rattle.bc_shapes.specs.Shape.{At, same_entries}
 use Rattle.bc_flow.specs.Edges.{iterator_if}
-use Rattle.bc_flow.specs.Machine as machine
-use Rattle.bc_flow.specs.Machine.{Slot, Stack, Value, NoneOrException, KeptReturn, KeptJump, Iter1, Iter2, Iter3, Iter4, Null, Method, all_wanted, cut, remark, is_run}
+use Rattle.bc_flow.specs.Machine.{Slot, Stack, Value, NoneOrException, KeptReturn, KeptJump, Iter1, Iter2, Iter3, Iter4, Null}
+use Rattle.bc_flow.specs.Machine.{Method, all_wanted, cut, remark, is_run}
 use Rattle.bc_flow.specs.Verified.{Assigned}
 use Rattle.snap_states.specs.declared.slot.Slot.{Slot as RustSlot}
 use Rattle.snap_states.specs.declared.slot.Slot.TheVariants as rust

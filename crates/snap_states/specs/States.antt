@@ -1,5 +1,6 @@
 -- Which snapshots are states of a library: one record for each group of conditions.
-use Rattle.std.specs.Prelude.{◌≡◌, ◌≢◌, ℕ, pos, ◌^◌, ◌<◌, ◌≤◌, ◌⊎◌, Bool, false, List, [], ◌∷◌, length, reverse, drop, Option, Some, None, IsSome, IfSome, All, Contains, codes, slice_get, option_and_then}
+use Rattle.std.specs.Prelude.{◌≡◌, ◌≢◌, ℕ, pos, ◌^◌, ◌<◌, ◌≤◌, ◌⊎◌, Bool, false, List, [], ◌∷◌, length, reverse, drop, Option}
+use Rattle.std.specs.Prelude.{Some, None, IsSome, IfSome, All, Contains, codes, slice_get, option_and_then}
 use Rattle.std.specs.Option.{option_map}
 use Rattle.mpy_base.specs.declared.builtin.Builtin.{Builtin}
 use Rattle.mpy_base.specs.declared.kind.Kind.{Kind}
@@ -343,16 +344,25 @@ module _ (shelf : Shelf) (s : Snapshot) where
     none : ShowsParts offsets [] []
     value : {v : ValuePart} {ps : List SlotPart} {st : Stack} → IsPlain v → ShowsParts offsets ps st → ShowsParts offsets (slots.Value v ∷ ps) (flow.Value ∷ st)
     nothing : {ps : List SlotPart} {st : Stack} → ShowsParts offsets ps st → ShowsParts offsets (slots.Value parts.None ∷ ps) (flow.NoneOrException ∷ st)
-    exception : {n : ℕ} {ps : List SlotPart} {st : Stack} → IsAt s AnException n → ShowsParts offsets ps st → ShowsParts offsets (slots.Value (parts.Object n) ∷ ps) (flow.NoneOrException ∷ st)
+    exception : {n : ℕ} {ps : List SlotPart} {st : Stack} → IsAt s AnException n → ShowsParts offsets ps st
+        → ShowsParts offsets (slots.Value (parts.Object n) ∷ ps) (flow.NoneOrException ∷ st)
     null : {ps : List SlotPart} {st : Stack} → ShowsParts offsets ps st → ShowsParts offsets (slots.Empty ∷ ps) (flow.Null ∷ st)
-    bound : {v : ValuePart} {name : List ℕ} {ps : List SlotPart} {st : Stack} → IsBound name v → ShowsParts offsets ps st → ShowsParts offsets (slots.Value v ∷ slots.Value (parts.Named name) ∷ ps) (flow.Method ∷ flow.Value ∷ st)
-    free : {v : ValuePart} {ps : List SlotPart} {st : Stack} → IsPlain v → ShowsParts offsets ps st → ShowsParts offsets (slots.Empty ∷ slots.Value v ∷ ps) (flow.Method ∷ flow.Value ∷ st)
-    kept_return : {v : ValuePart} {ps : List SlotPart} {st : Stack} → IsPlain v → ShowsParts offsets ps st → ShowsParts offsets (slots.Return v ∷ ps) (flow.KeptReturn ∷ st)
-    kept_jump : {target t d : ℕ} {it : Bool} {ps : List SlotPart} {st : Stack} → slice_get offsets t ≡ Some target → ShowsParts offsets ps st → ShowsParts offsets (slots.Jump target d it ∷ ps) (flow.KeptJump t d it ∷ st)
-    whole : {over : ValuePart} {at : ℕ} {ps : List SlotPart} {st : Stack} → IsOver over → ShowsParts offsets ps st → ShowsParts offsets (slots.Iterator over at ∷ ps) (flow.Iter4 ∷ flow.Iter3 ∷ flow.Iter2 ∷ flow.Iter1 ∷ st)
-    three : {over : ValuePart} {at : ℕ} {ps : List SlotPart} {st : Stack} → IsOver over → ShowsParts offsets ps st → ShowsParts offsets (slots.Left 3 over at ∷ ps) (flow.Iter3 ∷ flow.Iter2 ∷ flow.Iter1 ∷ st)
-    two : {over : ValuePart} {at : ℕ} {ps : List SlotPart} {st : Stack} → IsOver over → ShowsParts offsets ps st → ShowsParts offsets (slots.Left 2 over at ∷ ps) (flow.Iter2 ∷ flow.Iter1 ∷ st)
-    one : {over : ValuePart} {at : ℕ} {ps : List SlotPart} {st : Stack} → IsOver over → ShowsParts offsets ps st → ShowsParts offsets (slots.Left 1 over at ∷ ps) (flow.Iter1 ∷ st)
+    bound : {v : ValuePart} {name : List ℕ} {ps : List SlotPart} {st : Stack} → IsBound name v → ShowsParts offsets ps st
+        → ShowsParts offsets (slots.Value v ∷ slots.Value (parts.Named name) ∷ ps) (flow.Method ∷ flow.Value ∷ st)
+    free : {v : ValuePart} {ps : List SlotPart} {st : Stack} → IsPlain v → ShowsParts offsets ps st
+        → ShowsParts offsets (slots.Empty ∷ slots.Value v ∷ ps) (flow.Method ∷ flow.Value ∷ st)
+    kept_return : {v : ValuePart} {ps : List SlotPart} {st : Stack} → IsPlain v → ShowsParts offsets ps st
+        → ShowsParts offsets (slots.Return v ∷ ps) (flow.KeptReturn ∷ st)
+    kept_jump : {target t d : ℕ} {it : Bool} {ps : List SlotPart} {st : Stack} → slice_get offsets t ≡ Some target
+        → ShowsParts offsets ps st → ShowsParts offsets (slots.Jump target d it ∷ ps) (flow.KeptJump t d it ∷ st)
+    whole : {over : ValuePart} {at : ℕ} {ps : List SlotPart} {st : Stack} → IsOver over → ShowsParts offsets ps st
+        → ShowsParts offsets (slots.Iterator over at ∷ ps) (flow.Iter4 ∷ flow.Iter3 ∷ flow.Iter2 ∷ flow.Iter1 ∷ st)
+    three : {over : ValuePart} {at : ℕ} {ps : List SlotPart} {st : Stack} → IsOver over → ShowsParts offsets ps st
+        → ShowsParts offsets (slots.Left 3 over at ∷ ps) (flow.Iter3 ∷ flow.Iter2 ∷ flow.Iter1 ∷ st)
+    two : {over : ValuePart} {at : ℕ} {ps : List SlotPart} {st : Stack} → IsOver over → ShowsParts offsets ps st
+        → ShowsParts offsets (slots.Left 2 over at ∷ ps) (flow.Iter2 ∷ flow.Iter1 ∷ st)
+    one : {over : ValuePart} {at : ℕ} {ps : List SlotPart} {st : Stack} → IsOver over → ShowsParts offsets ps st
+        → ShowsParts offsets (slots.Left 1 over at ∷ ps) (flow.Iter1 ∷ st)
 
   -- a local
   abbrev pub IsFineLocal : SlotPart → Type 0

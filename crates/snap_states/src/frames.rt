@@ -192,7 +192,10 @@ fn has_stack(
 ) -> Result<bool, NoMemory>
     requires known { IsKnown known.now }
     requires asked { StartOnce shapes.now.offsets.items }
-    ensures { IfOk result (λ b. IsTrue b ↔ HasStack known.now.library.now known.now.snapshot.now (option_copied above.entry) f.now shapes.now.code.items.items shapes.now.offsets.items (assigned shapes.now) position (at_of shape.now)) }
+    ensures { IfOk result (λ b. IsTrue b
+        ↔ HasStack known.now.library.now known.now.snapshot.now
+        (option_copied above.entry) f.now shapes.now.code.items.items shapes.now.offsets.items (assigned shapes.now) position
+        (at_of shape.now)) }
 {
     if position >= shapes.code.items.len() {
         return Ok(false);
@@ -222,7 +225,8 @@ fn fits_shape(
 ) -> Result<bool, NoMemory>
     requires known { IsKnown known.now }
     requires asked { StartOnce shapes.now.offsets.items }
-    ensures { IfOk result (λ b. IsTrue b ↔ FitsShape known.now.library.now known.now.snapshot.now (option_copied above.entry) f.now shapes.now position (at_of shape.now)) }
+    ensures { IfOk result (λ b. IsTrue b
+        ↔ FitsShape known.now.library.now known.now.snapshot.now (option_copied above.entry) f.now shapes.now position (at_of shape.now)) }
 {
     let locals = locals(&shapes.code);
     if !has_parts(known, f, locals, &shapes.offsets, &shape.entries) {

@@ -12,6 +12,7 @@ mod objects;
 mod owners;
 mod registered;
 mod room;
+mod shaped;
 mod shapes;
 mod slot;
 mod slots;
@@ -20,6 +21,9 @@ mod values;
 
 pub use frames::are_fine_frames;
 pub use known::Known;
+pub use naming::{builtin_called, kind_called};
 pub use objects::are_fine_objects;
 pub use registered::are_registered_parts;
 pub use room::has_room;
+pub use shaped::is_shaped;
+pub use shapes::kinds_at;

@@ -137,14 +137,14 @@ fn first_kind(kinds: &[Kind], name: &[u8]) -> Option<Kind>
 }
 
 /// The built-in of a name.
-pub(crate) fn builtin_called(name: &[u8]) -> Option<Builtin>
+pub fn builtin_called(name: &[u8]) -> Option<Builtin>
     ensures { result ≡ builtin_of_name name.now }
 {
     first_builtin(builtins(), name)
 }
 
 /// The kind of exceptions of a name.
-pub(crate) fn kind_called(name: &[u8]) -> Option<Kind>
+pub fn kind_called(name: &[u8]) -> Option<Kind>
     ensures { result ≡ kind_of_name name.now }
 {
     first_kind(kinds(), name)

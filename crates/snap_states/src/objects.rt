@@ -92,7 +92,9 @@ fn have_names(known: &Known, pairs: &[PairPart]) -> bool
 fn have_names_if_owned(known: &Known, number: usize, pairs: &[PairPart]) -> bool
     requires known { IsKnown known.now }
     requires there { number < length known.now.snapshot.now.objects }
-    ensures { IsTrue result ↔ ((m : ℕ) → states.NamesOf known.now.snapshot.now m number → All (states.HasName known.now.library.now known.now.snapshot.now) pairs.now) }
+    ensures { IsTrue result
+        ↔ ((m : ℕ) → states.NamesOf known.now.snapshot.now m number
+        → All (states.HasName known.now.library.now known.now.snapshot.now) pairs.now) }
 {
     if is_free(known, number) {
         return true;

@@ -1,6 +1,7 @@
 //! What the slots of a frame are, by the kinds that are asked.
 
-ghost use Rattle.std.specs.Prelude.{◌≡◌, ◌↔◌, ◌++◌, ◌∷◌, ℕ, List, IsTrue, IfOk, IfSome, IfNone, OnOk, Some, true, drop, reverse, take, slice_get, option_copied};
+ghost use Rattle.std.specs.Prelude.{◌≡◌, ◌↔◌, ◌++◌, ◌∷◌, ℕ, List, IsTrue, IfOk, IfSome, IfNone, OnOk, Some, true, drop, reverse};
+ghost use Rattle.std.specs.Prelude.{take, slice_get, option_copied};
 ghost use Rattle.bc_library.specs.bc_shapes.declared.kinds.Kind.{Kind as KindOf};
 ghost use Rattle.bc_library.specs.bc_shapes.declared.kinds.Kind.TheVariants as kind_names;
 ghost use Rattle.bc_library.specs.Shelf.{Shelf};
@@ -9,7 +10,9 @@ ghost use Rattle.snap_grammar.specs.declared.parts.SlotPart.TheVariants as parts
 ghost use Rattle.snap_grammar.specs.declared.parts.Snapshot.{Snapshot};
 ghost use Rattle.snap_states.specs.Stacks.{slot_as, stack_as};
 ghost use Rattle.snap_states.specs.Knowing.{IsKnown};
-ghost use Rattle.snap_states.specs.Fronts.{AreNone, IsCaught, IsLookUp, IsLowest, IsNoSlot, IsSlot, IsTaken, StartOnce, begins_with_value, front_more, front_slots, is_iterating, is_open, is_single, iterator_in, left_of, over_of, top_in, value_in};
+ghost use Rattle.snap_states.specs.Fronts.{AreNone, IsCaught, IsLookUp, IsLowest, IsNoSlot, IsSlot, IsTaken, StartOnce};
+ghost use Rattle.snap_states.specs.Fronts.{begins_with_value, front_more, front_slots, is_iterating, is_open, is_single};
+ghost use Rattle.snap_states.specs.Fronts.{iterator_in, left_of, over_of, top_in, value_in};
 
 use crate::kinds::PartKind;
 use crate::known::{Known, is_at};
@@ -64,7 +67,8 @@ fn is_caught(known: &Known<'_>, v: &ValuePart) -> bool
 /// The slot that a value is where a value is asked.
 fn plain_slot(known: &Known<'_>, v: &ValuePart) -> Option<Slot>
     requires { IsKnown known.now }
-    ensures some { IfSome result (λ slot. (offsets : List ℕ) → IsSlot known.now.library.now known.now.snapshot.now offsets (parts.Value v.now) kind_names.Value (slot_as slot)) }
+    ensures some { IfSome result (λ slot. (offsets : List ℕ)
+        → IsSlot known.now.library.now known.now.snapshot.now offsets (parts.Value v.now) kind_names.Value (slot_as slot)) }
     ensures none { IfNone result ((offsets : List ℕ) → IsNoSlot known.now.library.now known.now.snapshot.now offsets (parts.Value v.now) kind_names.Value) }
 {
     if is_caught(known, v) {
@@ -80,7 +84,8 @@ fn plain_slot(known: &Known<'_>, v: &ValuePart) -> Option<Slot>
 fn caught_slot(known: &Known<'_>, v: &ValuePart, kind: Kind) -> Option<Slot>
     requires known { IsKnown known.now }
     requires asked { is_open kind ≡ true }
-    ensures some { IfSome result (λ slot. (offsets : List ℕ) → IsSlot known.now.library.now known.now.snapshot.now offsets (parts.Value v.now) kind (slot_as slot)) }
+    ensures some { IfSome result (λ slot. (offsets : List ℕ)
+        → IsSlot known.now.library.now known.now.snapshot.now offsets (parts.Value v.now) kind (slot_as slot)) }
     ensures none { IfNone result ((offsets : List ℕ) → IsNoSlot known.now.library.now known.now.snapshot.now offsets (parts.Value v.now) kind) }
 {
     if is_caught(known, v) {
@@ -94,7 +99,8 @@ fn caught_slot(known: &Known<'_>, v: &ValuePart, kind: Kind) -> Option<Slot>
 fn value_slot(known: &Known<'_>, v: &ValuePart, kind: Kind) -> Option<Slot>
     requires known { IsKnown known.now }
     requires asked { is_single kind ≡ true }
-    ensures some { IfSome result (λ slot. (offsets : List ℕ) → IsSlot known.now.library.now known.now.snapshot.now offsets (parts.Value v.now) kind (slot_as slot)) }
+    ensures some { IfSome result (λ slot. (offsets : List ℕ)
+        → IsSlot known.now.library.now known.now.snapshot.now offsets (parts.Value v.now) kind (slot_as slot)) }
     ensures none { IfNone result ((offsets : List ℕ) → IsNoSlot known.now.library.now known.now.snapshot.now offsets (parts.Value v.now) kind) }
 {
     match kind {
@@ -109,7 +115,8 @@ fn value_slot(known: &Known<'_>, v: &ValuePart, kind: Kind) -> Option<Slot>
 fn return_slot(known: &Known<'_>, v: &ValuePart, kind: Kind) -> Option<Slot>
     requires known { IsKnown known.now }
     requires asked { is_single kind ≡ true }
-    ensures some { IfSome result (λ slot. (offsets : List ℕ) → IsSlot known.now.library.now known.now.snapshot.now offsets (parts.Return v.now) kind (slot_as slot)) }
+    ensures some { IfSome result (λ slot. (offsets : List ℕ)
+        → IsSlot known.now.library.now known.now.snapshot.now offsets (parts.Return v.now) kind (slot_as slot)) }
     ensures none { IfNone result ((offsets : List ℕ) → IsNoSlot known.now.library.now known.now.snapshot.now offsets (parts.Return v.now) kind) }
 {
     match kind {
@@ -236,8 +243,10 @@ fn over_of<'a>(front: Front, part: &'a SlotPart) -> Option<&'a ValuePart>
 fn iterator_front(known: &Known<'_>, part: &SlotPart, kind: Kind, kinds: &[Kind]) -> Option<Front>
     requires known { IsKnown known.now }
     requires asked { is_iterating kind ≡ true }
-    ensures some { IfSome result (λ f. (offsets : List ℕ) (ps : List Part) → IsTaken known.now.library.now known.now.snapshot.now offsets part.now ps (kind ∷ kinds.now) f) }
-    ensures none { IfNone result ((offsets : List ℕ) (ps : List Part) → AreNone known.now.library.now known.now.snapshot.now offsets (part.now ∷ ps) (kind ∷ kinds.now)) }
+    ensures some { IfSome result (λ f. (offsets : List ℕ) (ps : List Part)
+        → IsTaken known.now.library.now known.now.snapshot.now offsets part.now ps (kind ∷ kinds.now) f) }
+    ensures none { IfNone result ((offsets : List ℕ) (ps : List Part)
+        → AreNone known.now.library.now known.now.snapshot.now offsets (part.now ∷ ps) (kind ∷ kinds.now)) }
 {
     match iterator_at(kind, kinds) {
         None => None,
@@ -318,8 +327,10 @@ fn method_front(
     kinds: &[Kind],
 ) -> Option<Front>
     requires { IsKnown known.now }
-    ensures some { IfSome result (λ f. (offsets : List ℕ) → IsTaken known.now.library.now known.now.snapshot.now offsets part.now (reverse below.now) (kind_names.Method ∷ kinds.now) f) }
-    ensures none { IfNone result ((offsets : List ℕ) → AreNone known.now.library.now known.now.snapshot.now offsets (part.now ∷ reverse below.now) (kind_names.Method ∷ kinds.now)) }
+    ensures some { IfSome result (λ f. (offsets : List ℕ)
+        → IsTaken known.now.library.now known.now.snapshot.now offsets part.now (reverse below.now) (kind_names.Method ∷ kinds.now) f) }
+    ensures none { IfNone result ((offsets : List ℕ)
+        → AreNone known.now.library.now known.now.snapshot.now offsets (part.now ∷ reverse below.now) (kind_names.Method ∷ kinds.now)) }
 {
     if !begins_with_value(kinds) {
         return None;
@@ -341,8 +352,10 @@ fn single_front(known: &Known<'_>, offsets: &[usize], part: &SlotPart, kind: Kin
     requires known { IsKnown known.now }
     requires single { is_single kind ≡ true }
     requires once { StartOnce offsets.now }
-    ensures some { IfSome result (λ f. (ps : List Part) (ks : List KindOf) → IsTaken known.now.library.now known.now.snapshot.now offsets.now part.now ps (kind ∷ ks) f) }
-    ensures none { IfNone result ((ps : List Part) (ks : List KindOf) → AreNone known.now.library.now known.now.snapshot.now offsets.now (part.now ∷ ps) (kind ∷ ks)) }
+    ensures some { IfSome result (λ f. (ps : List Part) (ks : List KindOf)
+        → IsTaken known.now.library.now known.now.snapshot.now offsets.now part.now ps (kind ∷ ks) f) }
+    ensures none { IfNone result ((ps : List Part) (ks : List KindOf)
+        → AreNone known.now.library.now known.now.snapshot.now offsets.now (part.now ∷ ps) (kind ∷ ks)) }
 {
     match slot_of(known, offsets, part, kind) {
         None => None,
@@ -439,7 +452,9 @@ pub(crate) fn stack_of(
 ) -> Result<Option<Vec<Slot>>, NoMemory>
     requires known { IsKnown known.now }
     requires asked { StartOnce offsets.now }
-    ensures some { IfOk result (λ o. IfSome o (λ v. IsLowest known.now.library.now known.now.snapshot.now offsets.now (reverse parts.now) kinds.now (stack_as v.items))) }
+    ensures some { IfOk result
+        (λ o. IfSome o (λ v. IsLowest known.now.library.now known.now.snapshot.now offsets.now (reverse parts.now) kinds.now
+        (stack_as v.items))) }
     ensures none { IfOk result (λ o. IfNone o (AreNone known.now.library.now known.now.snapshot.now offsets.now (reverse parts.now) kinds.now)) }
 {
     let mut stack = Vec::new(alloc);

@@ -4,7 +4,6 @@ ghost use Rattle.std.specs.Prelude.{◌≡◌, ◌<◌, length, IfOk, IfSome};
 ghost use Rattle.mpy_reader.specs.mpy_tree.Raw.{Module};
 ghost use Rattle.library_files.specs.Ends.{BeginsWith, HoldsModules};
 ghost use Rattle.vm_starting.specs.Kept.{AreFetched};
-ghost use Rattle.vm_starting.specs.Programs.{IsRunnable};
 ghost use Rattle.vm_machine.specs.Machine.{IsVm};
 
 use crate::program::Program;
@@ -110,7 +109,6 @@ fn outcome_of(
     part: u32,
     most: u32,
 ) -> Result<Option<Outcome>, NoMemory>
-    requires runnable { IsRunnable library.now }
     requires rows { rows.now ≡ library.now }
     requires there { 0 < length library.now.modules }
 {
@@ -194,7 +192,6 @@ fn parts_are_so(
     rows: &Rows<'_>,
     part: u32,
 ) -> Result<bool, NoMemory>
-    requires runnable { IsRunnable library.now }
     requires rows { rows.now ≡ library.now }
     requires there { 0 < length library.now.modules }
 {
@@ -219,7 +216,6 @@ fn parts_are_so(
 
 /// Do the library's runs in parts of 1, 2, 3 and 7 steps come to what the program's are to come to?
 fn runs_are_so(alloc: Global, program: &Program, library: &Library) -> Result<bool, NoMemory>
-    requires runnable { IsRunnable library.now }
     requires there { 0 < length library.now.modules }
 {
     let rows = Rows::new(alloc, library)?;

@@ -24,10 +24,10 @@ use Rattle.frame_calls.specs.prim_calls.declared.calls.CallStop.{CallStop}
 use Rattle.vm_states.specs.vm_frames.Calls.{Call, Calls, OfRunning}
 use Rattle.vm_states.specs.frame_moves.Shown.{Tables, IsNext}
 use Rattle.vm_states.specs.frame_moves.Outcomes.{world_of, outcome_of, Does}
-use Rattle.vm_states.specs.vm_fetching.declared.operations.NumberOp.{NumberOp}
+use Rattle.vm_states.specs.vm_fetching.declared.operations.CallOp.{CallOp}
 use Rattle.vm_states.specs.vm_fetching.declared.instruction.Fetched.{Fetched}
-use Rattle.vm_states.specs.vm_fetching.declared.instruction.Instruction.TheVariants as fetched
-use Rattle.vm_states.specs.vm_fetching.Operations.{number_op}
+use Rattle.vm_states.specs.vm_fetching.Instructions as fetched
+use Rattle.vm_states.specs.vm_fetching.Operations.{call_op}
 use Rattle.frame_calls.specs.declared.calling.Invocation.{Invocation}
 use Rattle.frame_calls.specs.Built.{ActsBuilt, IsCalled}
 use Rattle.frame_calls.specs.Invoking.{Invokes}
@@ -39,7 +39,7 @@ use Rattle.vm_states.specs.Ready.{IsReady}
 use Rattle.vm_states.specs.State.{IsState}
 use Rattle.state_calls.specs.Called.{of_stop, visits, Comes, CallComes, HeapComes}
 use Rattle.state_calls.specs.Runs.{IsFetchedAt}
-use Rattle.state_calls.specs.Taken.{CallsValue, IsTaken}
+use Rattle.state_calls.specs.Taken.{IsTaken}
 use Rattle.state_calls.proofs.Comings.{with_tables, by_does, built}
 use Rattle.state_calls.proofs.Fitting.{value_runs}
 use Rattle.state_calls.proofs.Functions.{invokes_in}
@@ -52,13 +52,13 @@ pub some_calls : (calls : List Call) (n : ℕ) → 0 < n → n ≤ length (runni
 some_calls [] n some there = absurd (omega (arith, some, there))
 some_calls (c ∷ cs) n some there = omega arith
 
-module _ (p : Program) (row : Row) (means : Means p) (shelf : Shelf) (shelf_is : p.shelf ≡ shelf) (op : NumberOp) (number end : ℕ) (before behind : Heap Value ℕ) (s new : Calls)
-    (state : IsState p before.objects s) (r : IsReady p s row (record { instruction = fetched.Number op number; end = end })) (given : Given) (call : Invocation) (taken : IsTaken shelf op number before s given call) where
+module _ (p : Program) (row : Row) (means : Means p) (shelf : Shelf) (shelf_is : p.shelf ≡ shelf) (op : CallOp) (number end : ℕ) (before behind : Heap Value ℕ) (s new : Calls)
+    (state : IsState p before.objects s) (r : IsReady p s row (record { instruction = fetched.call op number; end = end })) (given : Given) (call : Invocation) (taken : IsTaken shelf op number before s given call) where
   abbrev It : Item
-  It = Plain (instrs.Num (number_op op) number)
+  It = Plain (instrs.Num (call_op op) number)
 
   abbrev Read : Fetched
-  Read = record { instruction = fetched.Number op number; end = end }
+  Read = record { instruction = fetched.call op number; end = end }
 
   -- a method
   module _ (object : Value) (method : Builtin) (is : call.callee ≡ callees.Method object method) (result : Result (Unit {0}) Stop) where
@@ -93,12 +93,12 @@ module _ (p : Program) (row : Row) (means : Means p) (shelf : Shelf) (shelf_is :
       by_does p row s Read r (callees.NotCallable value_type) given before w before s (Err stop) (steps (invokes_in p means shelf shelf_is op number before s given call taken (callees.NotCallable value_type) is))
 
   -- a built-in gives a value, or stops
-  pub built_again : (rows : places.Laws) → puttings.Laws → CallsValue op → OfRunning (IsFetchedAt shelf Read) s.calls → (result : Result (Unit {0}) CallStop)
+  pub built_again : (rows : places.Laws) → puttings.Laws → OfRunning (IsFetchedAt shelf Read) s.calls → (result : Result (Unit {0}) CallStop)
       → puttings.Put (text_at shelf) (items_at shelf) before behind end call.size s new result → IsState p behind.objects new
-  built_again rows laws calls read result put =
+  built_again rows laws read result put =
       let own : IsFetchedAt p.shelf Read r.first = subst (λ (z : Shelf). IsFetchedAt z Read r.first) (sym shelf_is) (first_of (IsFetchedAt shelf Read) s.calls r.first r.others r.are read) in
       puttings.put_state laws p row means before behind s new Read state r call.size result (places.over p means shelf shelf_is (λ t u. puttings.Put t u before behind end call.size s new result) put)
-      (λ v ok moved. value_runs p means s r.first r.others r.are state.running rows op number end calls own call.size taken.size (first_of _ s.calls r.first r.others r.are r.next) v new moved (r.begins tt))
+      (λ v ok moved. value_runs p means s r.first r.others r.are state.running rows op number end own call.size taken.size (first_of _ s.calls r.first r.others r.are r.next) v new moved (r.begins tt))
 
 -- a call that puts nothing and calls no port
 pub quiet_heap : (p : Program) (place : Place) (next size : ℕ) (callee : Callee) (given : Given) (before behind : Heap Value ℕ) (s new : Calls) (result : Result (Unit {0}) Stop)
@@ -109,8 +109,8 @@ quiet_heap p place next size callee given before behind s new (Err stop) comes =
     inr (λ w. record { paid = visits p callee given before w; after = w; modules = refl; steps = (comes w).steps (visits p callee given before w) (omega arith) })
 
 -- and comes to that, with the output and the ports
-pub built_comes : {S : Type 0} (told : S → Option (List ℕ)) (count : S → ℕ) (p : Program) (row : Row) (means : Means p) (shelf : Shelf) (shelf_is : p.shelf ≡ shelf) (op : NumberOp) (number end : ℕ) (before behind : Seen S) (s new : Calls)
-    (r : IsReady p s row (record { instruction = fetched.Number op number; end = end })) (given : Given) (call : Invocation) (taken : IsTaken shelf op number before.heap s given call)
+pub built_comes : {S : Type 0} (told : S → Option (List ℕ)) (count : S → ℕ) (p : Program) (row : Row) (means : Means p) (shelf : Shelf) (shelf_is : p.shelf ≡ shelf) (op : CallOp) (number end : ℕ) (before behind : Seen S) (s new : Calls)
+    (r : IsReady p s row (record { instruction = fetched.call op number; end = end })) (given : Given) (call : Invocation) (taken : IsTaken shelf op number before.heap s given call)
     (b : Builtin) (is : call.callee ≡ callees.Built b) (result : Result (Unit {0}) CallStop)
     → ((layout : Layout) (library : Library) (item : Item) (w : PlainWorld) → Invokes (tables_of (text_at shelf) (items_at shelf) layout) item call.size before.heap s.calls given.args given.keys (callees.Built b)
     → IsNext (tables_of (text_at shelf) (items_at shelf) layout) end s.calls → (IsOfPorts b → Tell before.ports w.ports)
@@ -118,17 +118,17 @@ pub built_comes : {S : Type 0} (told : S → Option (List ℕ)) (count : S → �
     → IsCalled told count (text_at shelf) (items_at shelf) before behind given.args given.keys b result
     → (w : PlainWorld) → told before.out ≡ Some w.output → Tell before.ports w.ports → CallComes told count p r.place (callees.Built b) given before behind s new w result
 built_comes told count p row means shelf shelf_is op number end before behind s new r given call taken b is result acts is_called w told_is tell =
-    let item : Item = Plain (instrs.Num (number_op op) number) in
-    built told count p row s new (record { instruction = fetched.Number op number; end = end }) r given before behind b call.size w told_is tell result
+    let item : Item = Plain (instrs.Num (call_op op) number) in
+    built told count p row s new (record { instruction = fetched.call op number; end = end }) r given before behind b call.size w told_is tell result
     (with_tables p means shelf shelf_is
     (λ (t : Tables). Invokes t item call.size before.heap s.calls given.args given.keys (callees.Built b) → IsNext t end s.calls → ActsBuilt told count t p.library item call.size end b given.args given.keys before behind s.calls new.calls w result)
     (λ layout i n. acts layout p.library item w i n (λ of_ports. tell)) (invokes_in p means shelf shelf_is op number before.heap s given call taken (callees.Built b) is) r.next)
-    (decided told count p row s new (record { instruction = fetched.Number op number; end = end }) r given before behind b call.size shelf w tell result
+    (decided told count p row s new (record { instruction = fetched.call op number; end = end }) r given before behind b call.size shelf w tell result
     (places.over p means shelf shelf_is (λ t u. IsCalled told count t u before behind given.args given.keys b result) is_called))
 
 -- and so does the heap, whatever these tell
-pub built_heap : {S : Type 0} (told : S → Option (List ℕ)) (count : S → ℕ) (p : Program) (row : Row) (means : Means p) (shelf : Shelf) (shelf_is : p.shelf ≡ shelf) (op : NumberOp) (number end : ℕ) (before behind : Seen S) (s new : Calls)
-    (r : IsReady p s row (record { instruction = fetched.Number op number; end = end })) (given : Given) (call : Invocation) (taken : IsTaken shelf op number before.heap s given call)
+pub built_heap : {S : Type 0} (told : S → Option (List ℕ)) (count : S → ℕ) (p : Program) (row : Row) (means : Means p) (shelf : Shelf) (shelf_is : p.shelf ≡ shelf) (op : CallOp) (number end : ℕ) (before behind : Seen S) (s new : Calls)
+    (r : IsReady p s row (record { instruction = fetched.call op number; end = end })) (given : Given) (call : Invocation) (taken : IsTaken shelf op number before.heap s given call)
     (b : Builtin) (is : call.callee ≡ callees.Built b) (result : Result (Unit {0}) CallStop)
     → ((layout : Layout) (library : Library) (item : Item) (w : PlainWorld) → Invokes (tables_of (text_at shelf) (items_at shelf) layout) item call.size before.heap s.calls given.args given.keys (callees.Built b)
     → IsNext (tables_of (text_at shelf) (items_at shelf) layout) end s.calls → (IsOfPorts b → Tell before.ports w.ports)
@@ -136,8 +136,8 @@ pub built_heap : {S : Type 0} (told : S → Option (List ℕ)) (count : S → �
     → IsCalled told count (text_at shelf) (items_at shelf) before behind given.args given.keys b result → Puts (text_at shelf) (items_at shelf) behind.heap.objects end call.size s new result
     → HeapComes p r.place end call.size before.heap behind.heap s new result
 built_heap told count p row means shelf shelf_is op number end before behind s new r given call taken b is result acts is_called moved =
-    let item : Item = Plain (instrs.Num (number_op op) number) in
-    heap_built told count p row s new (record { instruction = fetched.Number op number; end = end }) r given before behind b call.size shelf result
+    let item : Item = Plain (instrs.Num (call_op op) number) in
+    heap_built told count p row s new (record { instruction = fetched.call op number; end = end }) r given before behind b call.size shelf result
     (λ w tell.
     with_tables p means shelf shelf_is
     (λ (t : Tables). Invokes t item call.size before.heap s.calls given.args given.keys (callees.Built b) → IsNext t end s.calls → ActsBuilt told count t p.library item call.size end b given.args given.keys before behind s.calls new.calls w result)

@@ -33,18 +33,18 @@ use Rattle.vm_states.specs.vm_frames.Placed.{IsPlaced}
 use Rattle.vm_states.specs.vm_frames.Views.{slot_of, slots_of, starts_of, position_of, frame_of}
 use Rattle.vm_states.specs.frame_moves.Shown.{view_of, value_of}
 use Rattle.vm_states.proofs.frame_moves_lemmas.Stepping.{goes_to}
-use Rattle.vm_states.specs.vm_fetching.declared.operations.NumberOp.{NumberOp}
-use Rattle.vm_states.specs.vm_fetching.declared.operations.NumberOp.TheVariants as number_ops
+use Rattle.vm_states.specs.vm_fetching.declared.operations.CallOp.{CallOp}
+use Rattle.vm_states.specs.vm_fetching.declared.operations.CallOp.TheVariants as call_ops
 use Rattle.vm_states.specs.vm_fetching.declared.instruction.Fetched.{Fetched}
-use Rattle.vm_states.specs.vm_fetching.declared.instruction.Instruction.TheVariants as fetched
-use Rattle.vm_states.specs.vm_fetching.Operations.{number_op}
+use Rattle.vm_states.specs.vm_fetching.Instructions as fetched
+use Rattle.vm_states.specs.vm_fetching.Operations.{call_op}
 use Rattle.vm_states.specs.vm_fetching.Shows.{item_of_fetched}
 use Rattle.frame_calls.specs.Operands.{operands_count}
 use Rattle.frame_calls.specs.Putting.{with_value}
 use Rattle.vm_states.specs.Means.{Program, Means}
 use Rattle.vm_states.specs.Running.{FitCalls, HasRooms, IsOfModule, IsRunning}
 use Rattle.state_calls.specs.Runs.{IsFetchedAt}
-use Rattle.state_calls.specs.Taken.{CallsValue, callee_slots}
+use Rattle.state_calls.specs.Taken.{callee_slots}
 use Rattle.state_calls.proofs.Places as places
 
 get_map : {A B : Type 0} (f : A → B) (xs : List A) (i : ℕ) (x : A) → slice_get xs i ≡ Some x → slice_get (map f xs) i ≡ Some (f x)
@@ -53,40 +53,18 @@ get_map f (y ∷ xs) zero x e = ap (λ z. Some (f z)) (same_Some y x e)
 get_map f (y ∷ xs) (suc i) x e = get_map f xs i x e
 
 -- what a call takes
-abbrev pub wants_of : NumberOp → ℕ → List Want
-wants_of number_ops.CallMethod n = takes (arguments n) (wants.Method ∷ wants.Value ∷ [])
+abbrev pub wants_of : CallOp → ℕ → List Want
+wants_of call_ops.CallMethod n = takes (arguments n) (wants.Method ∷ wants.Value ∷ [])
 wants_of op n = takes (arguments n + 1) []
 
-pub call_action : (op : NumberOp) (n : ℕ) → CallsValue op → instr_action (instrs.Num (number_op op) n) ≡ Straight (wants_of op n) (New kinds.Value ∷ [])
+pub call_action : (op : CallOp) (n : ℕ) → instr_action (instrs.Num (call_op op) n) ≡ Straight (wants_of op n) (New kinds.Value ∷ [])
 unfolding instr_action op_action
-call_action number_ops.CallFunction n h = refl
-call_action number_ops.CallMethod n h = refl
-call_action number_ops.LoadFast n h = absurd h
-call_action number_ops.LoadFastN n h = absurd h
-call_action number_ops.StoreFast n h = absurd h
-call_action number_ops.StoreFastN n h = absurd h
-call_action number_ops.DeleteFast n h = absurd h
-call_action number_ops.BuildTuple n h = absurd h
-call_action number_ops.BuildList n h = absurd h
-call_action number_ops.BuildMap n h = absurd h
-call_action number_ops.UnpackSequence n h = absurd h
-call_action number_ops.MakeFunction n h = absurd h
-call_action number_ops.MakeFunctionDefargs n h = absurd h
+call_action call_ops.CallFunction n = refl
+call_action call_ops.CallMethod n = refl
 
-pub wants_count : (op : NumberOp) (n : ℕ) → CallsValue op → length (wants_of op n) ≡ operands_count n + callee_slots op
-wants_count number_ops.CallFunction n h = let e = takes-length (arguments n + 1) [] in omega (arith, e)
-wants_count number_ops.CallMethod n h = let e = takes-length (arguments n) (wants.Method ∷ wants.Value ∷ []) in omega (arith, e)
-wants_count number_ops.LoadFast n h = absurd h
-wants_count number_ops.LoadFastN n h = absurd h
-wants_count number_ops.StoreFast n h = absurd h
-wants_count number_ops.StoreFastN n h = absurd h
-wants_count number_ops.DeleteFast n h = absurd h
-wants_count number_ops.BuildTuple n h = absurd h
-wants_count number_ops.BuildList n h = absurd h
-wants_count number_ops.BuildMap n h = absurd h
-wants_count number_ops.UnpackSequence n h = absurd h
-wants_count number_ops.MakeFunction n h = absurd h
-wants_count number_ops.MakeFunctionDefargs n h = absurd h
+pub wants_count : (op : CallOp) (n : ℕ) → length (wants_of op n) ≡ operands_count n + callee_slots op
+wants_count call_ops.CallFunction n = let e = takes-length (arguments n + 1) [] in omega (arith, e)
+wants_count call_ops.CallMethod n = let e = takes-length (arguments n) (wants.Method ∷ wants.Value ∷ []) in omega (arith, e)
 
 pub same_rooms : (p : Program) (s new : Calls) → new.slot_room ≡ s.slot_room → new.entry_room ≡ s.entry_room → HasRooms p s → HasRooms p new
 same_rooms p s new slots entries h = record {
@@ -101,12 +79,12 @@ module _ (p : Program) (means : Means p) (s : Calls) (c : Call) (cs : List Call)
   pub first_inside : IsOfModule p c
   first_inside = All-head (IsOfModule p) c cs (subst (All (IsOfModule p)) are run.of_modules)
 
-  module _ (laws : places.Laws) (op : NumberOp) (number end : ℕ) where
+  module _ (laws : places.Laws) (op : CallOp) (number end : ℕ) where
     abbrev Read : Fetched
-    Read = record { instruction = fetched.Number op number; end = end }
+    Read = record { instruction = fetched.call op number; end = end }
 
     -- the line that the first call stands at
-    line_is : IsFetchedAt p.shelf Read c → (l : Line) × (slice_get first_fits.0.code.lines (position_of (view_of p.tables) c) ≡ Some l) × (l.item ≡ Plain (instrs.Num (number_op op) number))
+    line_is : IsFetchedAt p.shelf Read c → (l : Line) × (slice_get first_fits.0.code.lines (position_of (view_of p.tables) c) ≡ Some l) × (l.item ≡ Plain (instrs.Num (call_op op) number))
     line_is read =
         let here = places.here p means c.module_number first_inside in
         let stands = first_fits.0 in
@@ -122,7 +100,7 @@ module _ (p : Program) (means : Means p) (s : Calls) (c : Call) (cs : List Call)
           refl,
         )
 
-    module _ (calls : CallsValue op) (read : IsFetchedAt p.shelf Read c) (size : ℕ) (size_is : size ≡ operands_count number + callee_slots op)
+    module _ (read : IsFetchedAt p.shelf Read c) (size : ℕ) (size_is : size ≡ operands_count number + callee_slots op)
         (next : position_in (starts_of (view_of p.tables) c) end ≡ suc (position_of (view_of p.tables) c)) (v : Value) where
       abbrev frame : Frame
       frame = frame_of (view_of p.tables) c
@@ -143,9 +121,9 @@ module _ (p : Program) (means : Means p) (s : Calls) (c : Call) (cs : List Call)
           let below = first_fits.1 in
           let line = line_is read in
           let action : slice_get (flow_of (p.plans frame.module_name frame.code) stands.code).actions frame.position ≡ Some (Straight ws (New kinds.Value ∷ [])) =
-          get_map (λ (l : Line). action_of l.item) stands.code.lines frame.position line.0 line.1 ∙ (ap (λ z. Some (action_of z)) line.2 ∙ ap Some (call_action op number calls)) in
+          get_map (λ (l : Line). action_of l.item) stands.code.lines frame.position line.0 line.1 ∙ (ap (λ z. Some (action_of z)) line.2 ∙ ap Some (call_action op number)) in
           let goes = straight anything p.plans p.library means.follows place 0 frame frames none stands below ws (New kinds.Value ∷ []) action in
-          let many : length ws ≡ size = wants_count op number calls ∙ sym size_is in
+          let many : length ws ≡ size = wants_count op number ∙ sym size_is in
           let starts = starts_of (view_of p.tables) c in
           let shows : ShowsAll (slots_of (view_of p.tables) starts (drop size c.slots)) (drop (length ws) stands.stack) =
           subst (λ z. ShowsAll z (drop (length ws) stands.stack)) (drop-map (slot_of (view_of p.tables) starts) (length ws) c.slots ∙ ap (λ k. slots_of (view_of p.tables) starts (drop k c.slots)) many)

@@ -22,10 +22,10 @@ use Rattle.vm_states.specs.vm_frames.Calls.{Calls, OfRunning, on_running}
 use Rattle.vm_states.specs.vm_frames.Placed.{IsPlaced}
 use Rattle.vm_states.specs.frame_moves.Shown.{Tables, IsNext, view_of}
 use Rattle.vm_states.specs.frame_moves.Outcomes.{world_of, outcome_of}
-use Rattle.vm_states.specs.vm_fetching.declared.operations.NumberOp.{NumberOp}
+use Rattle.vm_states.specs.vm_fetching.declared.operations.CallOp.{CallOp}
 use Rattle.vm_states.specs.vm_fetching.declared.instruction.Fetched.{Fetched}
-use Rattle.vm_states.specs.vm_fetching.declared.instruction.Instruction.TheVariants as fetched
-use Rattle.vm_states.specs.vm_fetching.Operations.{number_op}
+use Rattle.vm_states.specs.vm_fetching.Instructions as fetched
+use Rattle.vm_states.specs.vm_fetching.Operations.{call_op}
 use Rattle.frame_calls.specs.declared.binding.FunctionCode.{FunctionCode}
 use Rattle.frame_calls.specs.declared.calling.Invocation.{Invocation}
 use Rattle.frame_calls.specs.Coming.{ComesTo}
@@ -49,20 +49,20 @@ use Rattle.state_calls.proofs.Places as places
 use Rattle.state_calls.proofs.Puttings as puttings
 
 -- what the instruction calls, in the program's tables
-pub invokes_in : (p : Program) → Means p → (shelf : Shelf) → p.shelf ≡ shelf → (op : NumberOp) (number : ℕ) (heap : Heap Value ℕ) (s : Calls) (given : Given) (call : Invocation) → IsTaken shelf op number heap s given call
-    → (callee : Callee) → call.callee ≡ callee → Invokes p.tables (Plain (instrs.Num (number_op op) number)) call.size heap s.calls given.args given.keys callee
+pub invokes_in : (p : Program) → Means p → (shelf : Shelf) → p.shelf ≡ shelf → (op : CallOp) (number : ℕ) (heap : Heap Value ℕ) (s : Calls) (given : Given) (call : Invocation) → IsTaken shelf op number heap s given call
+    → (callee : Callee) → call.callee ≡ callee → Invokes p.tables (Plain (instrs.Num (call_op op) number)) call.size heap s.calls given.args given.keys callee
 invokes_in p means shelf shelf_is op number heap s given call taken callee is =
-    subst (λ (k : Callee). Invokes p.tables (Plain (instrs.Num (number_op op) number)) call.size heap s.calls given.args given.keys k) is
-    (with_tables p means shelf shelf_is (λ (t : Tables). Invokes t (Plain (instrs.Num (number_op op) number)) call.size heap s.calls given.args given.keys call.callee) taken.invokes)
+    subst (λ (k : Callee). Invokes p.tables (Plain (instrs.Num (call_op op) number)) call.size heap s.calls given.args given.keys k) is
+    (with_tables p means shelf shelf_is (λ (t : Tables). Invokes t (Plain (instrs.Num (call_op op) number)) call.size heap s.calls given.args given.keys call.callee) taken.invokes)
 
-module _ (rows : places.Laws) (p : Program) (row : Row) (means : Means p) (shelf : Shelf) (shelf_is : p.shelf ≡ shelf) (op : NumberOp) (number end : ℕ) (heap : Heap Value ℕ) (s new : Calls)
-    (state : IsState p heap.objects s) (r : IsReady p s row (record { instruction = fetched.Number op number; end = end })) (given : Given) (call : Invocation) (taken : IsTaken shelf op number heap s given call)
+module _ (rows : places.Laws) (p : Program) (row : Row) (means : Means p) (shelf : Shelf) (shelf_is : p.shelf ≡ shelf) (op : CallOp) (number end : ℕ) (heap : Heap Value ℕ) (s new : Calls)
+    (state : IsState p heap.objects s) (r : IsReady p s row (record { instruction = fetched.call op number; end = end })) (given : Given) (call : Invocation) (taken : IsTaken shelf op number heap s given call)
     (f : Function) (is : call.callee ≡ callees.Runs f) where
   abbrev It : Item
-  It = Plain (instrs.Num (number_op op) number)
+  It = Plain (instrs.Num (call_op op) number)
 
   abbrev Read : Fetched
-  Read = record { instruction = fetched.Number op number; end = end }
+  Read = record { instruction = fetched.call op number; end = end }
 
   invokes : Invokes p.tables It call.size heap s.calls given.args given.keys (callees.Runs f)
   invokes = invokes_in p means shelf shelf_is op number heap s given call taken (callees.Runs f) is

@@ -13,46 +13,19 @@ use Rattle.frame_calls.specs.prim_calls.Callees.{IsKnownCallee}
 use Rattle.vm_states.specs.vm_frames.declared.slot.Slot.{Slot}
 use Rattle.vm_states.specs.vm_frames.declared.slot.Slot.TheVariants as slots
 use Rattle.vm_states.specs.vm_frames.Calls.{Call, Calls}
-use Rattle.vm_states.specs.vm_fetching.declared.operations.NumberOp.{NumberOp}
-use Rattle.vm_states.specs.vm_fetching.declared.operations.NumberOp.TheVariants as number_ops
-use Rattle.vm_states.specs.vm_fetching.Operations.{number_op}
+use Rattle.vm_states.specs.vm_fetching.declared.operations.CallOp.{CallOp}
+use Rattle.vm_states.specs.vm_fetching.declared.operations.CallOp.TheVariants as call_ops
+use Rattle.vm_states.specs.vm_fetching.Operations.{call_op}
 use Rattle.frame_calls.specs.declared.calling.Invocation.{Invocation}
 use Rattle.frame_calls.specs.Invoking.{Invokes}
 use Rattle.frame_calls.specs.Known.{AreKnown}
 use Rattle.frame_calls.specs.Layouts.{Layout, tables_of}
 use Rattle.frame_calls.specs.Operands.{Given, running_slots, operands_count}
 
--- the operation calls a value
-abbrev pub CallsValue : NumberOp → Type 0
-CallsValue number_ops.CallFunction = Unit {0}
-CallsValue number_ops.CallMethod = Unit {0}
-CallsValue number_ops.LoadFast = ⊥
-CallsValue number_ops.LoadFastN = ⊥
-CallsValue number_ops.StoreFast = ⊥
-CallsValue number_ops.StoreFastN = ⊥
-CallsValue number_ops.DeleteFast = ⊥
-CallsValue number_ops.BuildTuple = ⊥
-CallsValue number_ops.BuildList = ⊥
-CallsValue number_ops.BuildMap = ⊥
-CallsValue number_ops.UnpackSequence = ⊥
-CallsValue number_ops.MakeFunction = ⊥
-CallsValue number_ops.MakeFunctionDefargs = ⊥
-
--- how many slots below the operands say what is called: none, where nothing is
-abbrev pub callee_slots : NumberOp → ℕ
-callee_slots number_ops.CallFunction = 1
-callee_slots number_ops.CallMethod = 2
-callee_slots number_ops.LoadFast = 0
-callee_slots number_ops.LoadFastN = 0
-callee_slots number_ops.StoreFast = 0
-callee_slots number_ops.StoreFastN = 0
-callee_slots number_ops.DeleteFast = 0
-callee_slots number_ops.BuildTuple = 0
-callee_slots number_ops.BuildList = 0
-callee_slots number_ops.BuildMap = 0
-callee_slots number_ops.UnpackSequence = 0
-callee_slots number_ops.MakeFunction = 0
-callee_slots number_ops.MakeFunctionDefargs = 0
+-- how many slots below the operands say what is called
+abbrev pub callee_slots : CallOp → ℕ
+callee_slots call_ops.CallFunction = 1
+callee_slots call_ops.CallMethod = 2
 
 -- an object that a look-up left lies on a method of its type
 abbrev pub HasMethods : List Slot → Type 0
@@ -67,10 +40,10 @@ pub record Keeps (old new : Calls) : Type 0 where
   pub methods : All (λ (c : Call). HasMethods c.slots) old.calls → All (λ (c : Call). HasMethods c.slots) new.calls
 
 -- this is what the instruction calls over the arena, and these are its operands. They are known
-pub record IsTaken (shelf : Shelf) (op : NumberOp) (number : ℕ) (heap : Heap Value ℕ) (s : Calls) (given : Given) (call : Invocation) : Type 0 where
+pub record IsTaken (shelf : Shelf) (op : CallOp) (number : ℕ) (heap : Heap Value ℕ) (s : Calls) (given : Given) (call : Invocation) : Type 0 where
   pub invokes : (layout : Layout)
       → Invokes (tables_of (text_at shelf) (items_at shelf) layout)
-      (Plain (instrs.Num (number_op op) number)) call.size heap s.calls given.args given.keys call.callee
+      (Plain (instrs.Num (call_op op) number)) call.size heap s.calls given.args given.keys call.callee
   pub callee : IsKnownCallee (text_at shelf) (items_at shelf) heap.objects call.callee
   pub operands : AreKnown (text_at shelf) (items_at shelf) heap.objects given
   pub few : length given.args < 256

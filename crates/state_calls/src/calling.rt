@@ -8,11 +8,11 @@ ghost use Rattle.port_set.specs.Counts.{CountsKeep};
 ghost use Rattle.vm_states.specs.bc_library.Constants.{items_at, text_at};
 ghost use Rattle.frame_calls.specs.prim_calls.declared.callees.Callee.TheVariants as callees;
 ghost use Rattle.vm_states.specs.vm_frames.Calls.{OfRunning};
-ghost use Rattle.vm_states.specs.vm_fetching.declared.instruction.Instruction.TheVariants as fetched;
+ghost use Rattle.vm_states.specs.vm_fetching.Instructions as fetched;
 ghost use Rattle.frame_calls.specs.Built.{IsCalled, IsKnownCallStop};
 ghost use Rattle.state_calls.specs.Called.{CallsIn, HeapComesIn, is_out, of_stop};
 ghost use Rattle.state_calls.specs.Runs.{IsFetchedAt, RunsWithin, RunsAgain};
-ghost use Rattle.state_calls.specs.Taken.{CallsValue, Keeps, IsTaken};
+ghost use Rattle.state_calls.specs.Taken.{Keeps, IsTaken};
 
 use crate::entering::call_code;
 use arena_heap::Arena;
@@ -23,7 +23,7 @@ use mpy_io::{Port, Sink};
 use port_set::PortSet;
 use prim_faults::Stop;
 use vm_frames::Frames;
-use vm_states::{Library, NumberOp, Rows, keeps_law, known_law, rows_law};
+use vm_states::{CallOp, Library, Rows, keeps_law, known_law, rows_law};
 
 /// A stop as that of a call.
 fn stopped(acted: Result<(), Stop>) -> Result<(), CallStop>
@@ -47,17 +47,16 @@ pub fn call_on<S: Sink, P: Port>(
     out: &mut S,
     ports: &mut PortSet<P>,
     call: Invocation,
-    op: NumberOp,
+    op: CallOp,
     number: u32,
     end: u32,
 ) -> Result<(), CallStop>
-    requires calls { CallsValue op }
-    requires runs { RunsWithin bindings.old.room library.now arena.old frames.old (record { instruction = fetched.Number op number; end = end }) }
-    requires read { OfRunning (IsFetchedAt library.now (record { instruction = fetched.Number op number; end = end })) frames.old.calls }
+    requires runs { RunsWithin bindings.old.room library.now arena.old frames.old (record { instruction = fetched.call op number; end = end }) }
+    requires read { OfRunning (IsFetchedAt library.now (record { instruction = fetched.call op number; end = end })) frames.old.calls }
     requires few { frames.old.slot_room < 2 ^ 32 }
     requires rows { rows.now ≡ library.now }
     requires taken { IsTaken library.now op number arena.old frames.old operands.now call }
-    ensures called { CallsIn S.told S.count library.now (record { instruction = fetched.Number op number; end = end }) call.callee operands.now (record {
+    ensures called { CallsIn S.told S.count library.now (record { instruction = fetched.call op number; end = end }) call.callee operands.now (record {
       heap = arena.old;
       out = out.old;
       ports = map P.seen ports.old;
@@ -67,11 +66,11 @@ pub fn call_on<S: Sink, P: Port>(
       ports = map P.seen ports.new;
     }) frames.old frames.new result }
     ensures heap { HeapComesIn library.now
-        (record { instruction = fetched.Number op number; end = end }) call.size arena.old arena.new frames.old frames.new result }
+        (record { instruction = fetched.call op number; end = end }) call.size arena.old arena.new frames.old frames.new result }
     ensures counts { Counts (S.count out.old) (S.count out.new) (is_out result) }
     ensures ports { is_out result ≡ true → map P.seen ports.new ≡ map P.seen ports.old }
     ensures faults { CountsKeep (map P.seen ports.old) (map P.seen ports.new) }
-    ensures again { RunsAgain library.now (record { instruction = fetched.Number op number; end = end }) arena.old arena.new frames.old frames.new }
+    ensures again { RunsAgain library.now (record { instruction = fetched.call op number; end = end }) arena.old arena.new frames.old frames.new }
     ensures built { (b : BuiltIn) → call.callee ≡ callees.Built b → IsCalled S.told S.count (text_at library.now) (items_at library.now) (record {
       heap = arena.old;
       out = out.old;

@@ -3,11 +3,11 @@
 ghost use Rattle.std.specs.Prelude.{◌≡◌, ◌<◌, ◌^◌, OnErr};
 ghost use Rattle.vm_states.specs.bc_library.Constants.{items_at, text_at};
 ghost use Rattle.frame_calls.specs.prim_calls.declared.callees.Callee.TheVariants as callees;
-ghost use Rattle.vm_states.specs.vm_fetching.declared.instruction.Instruction.TheVariants as fetched;
+ghost use Rattle.vm_states.specs.vm_fetching.Instructions as fetched;
 ghost use Rattle.frame_calls.specs.Putting.{IsKnownStop};
 ghost use Rattle.state_calls.specs.Called.{ComesIn};
 ghost use Rattle.state_calls.specs.Runs.{RunsWithin, RunsAgain};
-ghost use Rattle.state_calls.specs.Taken.{CallsValue, Keeps, IsTaken};
+ghost use Rattle.state_calls.specs.Taken.{Keeps, IsTaken};
 
 use crate::finding::code_of;
 use arena_heap::Arena;
@@ -17,7 +17,7 @@ use frame_calls::{
 };
 use prim_faults::Stop;
 use vm_frames::Frames;
-use vm_states::{Library, NumberOp, Rows, keeps_law, known_law, rows_law};
+use vm_states::{CallOp, Library, Rows, keeps_law, known_law, rows_law};
 
 /// A function is called: its code is entered, or the call gives None where the library doesn't have the code.
 pub(crate) fn call_code(
@@ -29,19 +29,18 @@ pub(crate) fn call_code(
     operands: &Operands,
     function: Function,
     call: Invocation,
-    op: NumberOp,
+    op: CallOp,
     number: u32,
     end: u32,
 ) -> Result<(), Stop>
-    requires calls { CallsValue op }
-    requires runs { RunsWithin bindings.old.room library.now arena.now frames.old (record { instruction = fetched.Number op number; end = end }) }
+    requires runs { RunsWithin bindings.old.room library.now arena.now frames.old (record { instruction = fetched.call op number; end = end }) }
     requires few { frames.old.slot_room < 2 ^ 32 }
     requires rows { rows.now ≡ library.now }
     requires taken { IsTaken library.now op number arena.now frames.old operands.now call }
     requires callee { call.callee ≡ callees.Runs function }
-    ensures comes { ComesIn library.now (record { instruction = fetched.Number op number; end = end })
+    ensures comes { ComesIn library.now (record { instruction = fetched.call op number; end = end })
         (callees.Runs function) operands.now arena.now arena.now frames.old frames.new result }
-    ensures again { RunsAgain library.now (record { instruction = fetched.Number op number; end = end }) arena.now arena.now frames.old frames.new }
+    ensures again { RunsAgain library.now (record { instruction = fetched.call op number; end = end }) arena.now arena.now frames.old frames.new }
     ensures stop { IsKnownStop (text_at library.now) (items_at library.now) arena.now.objects result }
     ensures stays { OnErr result (frames.new ≡ frames.old) }
     ensures keeps { Keeps frames.old frames.new }

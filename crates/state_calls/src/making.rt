@@ -1,8 +1,8 @@
 //! Functions that are made.
 
 ghost use Rattle.std.specs.Prelude.{◌≡◌, OnErr};
-ghost use Rattle.vm_states.specs.vm_fetching.declared.instruction.Instruction.TheVariants as fetched;
-ghost use Rattle.vm_states.specs.vm_fetching.declared.operations.NumberOp.TheVariants as number_ops;
+ghost use Rattle.vm_states.specs.vm_fetching.Instructions as fetched;
+ghost use Rattle.vm_states.specs.vm_fetching.declared.operations.MakeOp.TheVariants as make_ops;
 ghost use Rattle.state_calls.specs.Names.{AreNames};
 ghost use Rattle.state_calls.specs.Runs.{RunsIn, ActsIn};
 ghost use Rattle.state_calls.specs.Taken.{Keeps};
@@ -24,11 +24,11 @@ pub fn make_function(
     number: u32,
     end: u32,
 ) -> Result<(), Stop>
-    requires runs { RunsIn library.now arena.old frames.old (record { instruction = fetched.Number number_ops.MakeFunction number; end = end }) }
+    requires runs { RunsIn library.now arena.old frames.old (record { instruction = fetched.make make_ops.MakeFunction number; end = end }) }
     requires rows { rows.now ≡ library.now }
     requires names { AreNames library.now names.now }
     ensures acts { ActsIn library.now (record {
-      instruction = fetched.Number number_ops.MakeFunction number;
+      instruction = fetched.make make_ops.MakeFunction number;
       end = end;
     }) 0 arena.old arena.new frames.old frames.new result }
     ensures stays { OnErr result (frames.new ≡ frames.old) }
@@ -53,11 +53,11 @@ pub fn make_function_with(
     number: u32,
     end: u32,
 ) -> Result<(), Stop>
-    requires runs { RunsIn library.now arena.old frames.old (record { instruction = fetched.Number number_ops.MakeFunctionDefargs number; end = end }) }
+    requires runs { RunsIn library.now arena.old frames.old (record { instruction = fetched.make make_ops.MakeFunctionDefargs number; end = end }) }
     requires rows { rows.now ≡ library.now }
     requires names { AreNames library.now names.now }
     ensures acts { ActsIn library.now (record {
-      instruction = fetched.Number number_ops.MakeFunctionDefargs number;
+      instruction = fetched.make make_ops.MakeFunctionDefargs number;
       end = end;
     }) 0 arena.old arena.new frames.old frames.new result }
     ensures stays { OnErr result (frames.new ≡ frames.old) }

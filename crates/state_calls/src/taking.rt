@@ -6,18 +6,18 @@ ghost use Rattle.frame_calls.specs.arena_objects.Keys.{AllTold};
 ghost use Rattle.vm_states.specs.bc_library.Constants.{items_at, text_at};
 ghost use Rattle.frame_calls.specs.prim_calls.Callees.{IsKnownCallee};
 ghost use Rattle.vm_states.specs.vm_frames.Calls.{OfRunning};
-ghost use Rattle.vm_states.specs.vm_fetching.declared.instruction.Instruction.TheVariants as fetched;
+ghost use Rattle.vm_states.specs.vm_fetching.Instructions as fetched;
 ghost use Rattle.frame_calls.specs.Known.{AreKnown};
 ghost use Rattle.vm_states.specs.Means.{Program, Means};
 ghost use Rattle.state_calls.specs.Called.{visits};
 ghost use Rattle.state_calls.specs.Runs.{RunsWithin};
-ghost use Rattle.state_calls.specs.Taken.{CallsValue, HasMethods, IsTaken};
+ghost use Rattle.state_calls.specs.Taken.{HasMethods, IsTaken};
 
 use arena_heap::Arena;
 use bc_progress::room_law;
 use frame_calls::{Invocation, Operands, call_function, call_method, visits_call};
 use vm_frames::Frames;
-use vm_states::{Library, NumberOp, tops_law};
+use vm_states::{CallOp, Library, tops_law};
 
 /// CALL_FUNCTION or CALL_METHOD, where it was fetched for the running call: what it calls. Its operands are copied. It changes
 /// nothing else, and takes no memory.
@@ -27,12 +27,11 @@ pub fn take_call(
     arena: &Arena,
     library: &Library,
     operands: &mut Operands,
-    op: NumberOp,
+    op: CallOp,
     number: u32,
     end: u32,
 ) -> Invocation
-    requires calls { CallsValue op }
-    requires runs { RunsWithin operands.old.room library.now arena.now frames.now (record { instruction = fetched.Number op number; end = end }) }
+    requires runs { RunsWithin operands.old.room library.now arena.now frames.now (record { instruction = fetched.call op number; end = end }) }
     requires methods { OfRunning (λ c. HasMethods c.slots) frames.now.calls }
     ensures taken { IsTaken library.now op number arena.now frames.now operands.new result }
     ensures room { operands.new.room ≡ operands.old.room }
@@ -42,19 +41,8 @@ pub fn take_call(
     let _ = end;
     operands.take(frames, number);
     match op {
-        NumberOp::CallFunction => call_function(frames, arena, library, number),
-        NumberOp::CallMethod => call_method(frames, arena, library, number),
-        NumberOp::LoadFast
-        | NumberOp::LoadFastN
-        | NumberOp::StoreFast
-        | NumberOp::StoreFastN
-        | NumberOp::DeleteFast
-        | NumberOp::BuildTuple
-        | NumberOp::BuildList
-        | NumberOp::BuildMap
-        | NumberOp::UnpackSequence
-        | NumberOp::MakeFunction
-        | NumberOp::MakeFunctionDefargs => unreachable!(),
+        CallOp::CallFunction => call_function(frames, arena, library, number),
+        CallOp::CallMethod => call_method(frames, arena, library, number),
     }
 }
 

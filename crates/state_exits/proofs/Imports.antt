@@ -109,7 +109,7 @@ two_there p s row name end r t =
 
 -- the text of the name is told
 pub text_there : (p : Program) → Means p → (s : Calls) (row : Row) (name end : ℕ) → IsReady p s row (fetched_import name end) → IsSome (p.tables.texts (strs.Pool name))
-text_there p means s row name end r = subst (λ (f : StrNo → Option (List ℕ)). IsSome (f (strs.Pool name))) (sym means.constants.texts) r.text.2
+text_there p means s row name end r = subst (λ (f : StrNo → Option (List ℕ)). IsSome (f (strs.Pool name))) (sym means.constants.texts) r.text
 
 -- what it comes to, by the program's texts and shelf
 pub import_here : (texts : StrNo → Option (List ℕ)) (tuples : ConstNo → Option (List Value)) (p : Program) → Tells texts tuples p → (shelf : Shelf) → p.shelf ≡ shelf → (w : PlainWorld) (modules : Registry) (deep : Bool) (name : ℕ) (from level : Value) (import : Import)

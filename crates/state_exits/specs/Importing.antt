@@ -15,9 +15,8 @@ use Rattle.vm_states.specs.frame_moves.Outcomes.{outcome_of}
 use Rattle.vm_states.specs.frame_values.Effects.{IsKnownStop}
 use Rattle.vm_states.specs.frame_exits.declared.names.ModuleName.{ModuleName}
 use Rattle.vm_states.specs.frame_exits.Ends.{with_modules}
-use Rattle.vm_states.specs.vm_fetching.declared.operations.NameOp.TheVariants as name_ops
 use Rattle.vm_states.specs.vm_fetching.declared.instruction.Fetched.{Fetched}
-use Rattle.vm_states.specs.vm_fetching.declared.instruction.Instruction.TheVariants as fetched
+use Rattle.vm_states.specs.vm_fetching.Instructions as fetched
 use Rattle.vm_states.specs.Means.{Program, Means}
 use Rattle.vm_states.specs.Ready.{IsReady}
 use Rattle.vm_states.specs.State.{IsState}
@@ -27,7 +26,7 @@ use Rattle.state_exits.specs.Running.{stepped_with}
 
 -- IMPORT_NAME of the text that has this number, as it is fetched
 abbrev pub fetched_import : (name end : ℕ) → Fetched
-fetched_import name end = record { instruction = fetched.Name name_ops.ImportName (strs.Pool name); end = end }
+fetched_import name end = record { instruction = fetched.imports name; end = end }
 
 -- no call changes, and the same modules are registered
 pub record Stays (earlier later : Registry) (old new : Calls) : Type 0 where

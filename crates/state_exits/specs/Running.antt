@@ -21,9 +21,9 @@ use Rattle.vm_states.specs.frame_exits.declared.ends.End.{End}
 use Rattle.vm_states.specs.frame_exits.declared.ends.After.TheVariants as afters
 use Rattle.vm_states.specs.frame_exits.Ends.{with_modules, state_of}
 use Rattle.vm_states.specs.frame_exits.Known.{IsKnownAfter}
-use Rattle.vm_states.specs.vm_fetching.declared.operations.PlainOp.{PlainOp}
+use Rattle.vm_states.specs.vm_fetching.declared.operations.LeaveOp.{LeaveOp}
 use Rattle.vm_states.specs.vm_fetching.declared.instruction.Fetched.{Fetched}
-use Rattle.vm_states.specs.vm_fetching.declared.instruction.Instruction.TheVariants as fetched
+use Rattle.vm_states.specs.vm_fetching.Instructions as fetched
 use Rattle.vm_states.specs.vm_fetching.Fetches.{IsVerifiedRow}
 use Rattle.vm_states.specs.Means.{Program, Means}
 use Rattle.vm_states.specs.Ready.{IsReady}
@@ -31,9 +31,13 @@ use Rattle.vm_states.specs.State.{IsState}
 use Rattle.vm_states.specs.Acting.{Tells, stepped}
 use Rattle.state_exits.specs.Modules.{AreNames, AreRegistered}
 
--- the operation as it is fetched
-abbrev pub fetched_plain : PlainOp → (end : ℕ) → Fetched
-fetched_plain op end = record { instruction = fetched.Plain op; end = end }
+-- a return or a raise as it is fetched
+abbrev pub fetched_leave : LeaveOp → (end : ℕ) → Fetched
+fetched_leave op end = record { instruction = fetched.leave op; end = end }
+
+-- the end of a finally as it is fetched
+abbrev pub fetched_finish : (end : ℕ) → Fetched
+fetched_finish end = record { instruction = fetched.finish; end = end }
 
 -- the place of the instruction at the offset of the row, by numbers of texts
 abbrev pub place_at : Row → (offset : ℕ) → Place

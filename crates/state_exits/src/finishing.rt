@@ -3,10 +3,9 @@
 ghost use Rattle.std.specs.Prelude.{◌≡◌};
 ghost use Rattle.vm_states.specs.bc_rows.declared.row.Row.{Row as CodeRow};
 ghost use Rattle.prim_faults.specs.Sights.{under};
-ghost use Rattle.vm_states.specs.vm_fetching.declared.operations.PlainOp.TheVariants as plain_ops;
 ghost use Rattle.vm_states.specs.Means.{Program};
 ghost use Rattle.state_exits.specs.Keeping.{KeepsCause};
-ghost use Rattle.state_exits.specs.Running.{fetched_plain, RunsWith, RunsOnBehind};
+ghost use Rattle.state_exits.specs.Running.{fetched_finish, RunsWith, RunsOnBehind};
 
 use crate::returning::settle;
 use arena_heap::{Arena, Constants};
@@ -29,11 +28,11 @@ pub fn end_finally_on<C: Constants>(
 ) -> Option<End>
     requires runs { (row : CodeRow)
         × (h : under C.Constants consts.now RunsWith names.now library.now arena.old modules.old frames.old row
-        (fetched_plain plain_ops.EndFinally end)) × KeepsCause h.runs.program frames.old }
+        (fetched_finish end)) × KeepsCause h.runs.program frames.old }
     requires rows { rows.now ≡ library.now }
     ensures comes { (p : Program) (row : CodeRow) → p.shelf ≡ library.now → KeepsCause p frames.old
         → under C.Constants consts.now (RunsOnBehind p) names.now row
-        (fetched_plain plain_ops.EndFinally end) arena.old arena.new modules.old modules.new frames.old frames.new result }
+        (fetched_finish end) arena.old arena.new modules.old modules.new frames.old frames.new result }
     ensures rooms { frames.new ≡ record frames.old { calls = frames.new.calls } }
     ensures registry { modules.new.room ≡ modules.old.room }
 {

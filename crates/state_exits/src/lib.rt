@@ -12,4 +12,6 @@ pub use importing::import_on;
 pub use law::registered_law;
 pub use raising::{raise_again_on, raise_on, stop_on};
 pub use returning::return_on;
-pub use vm_states::{End, Fetched, Instruction, ModuleName, NameOp, NumberOp, PlainOp, Row, Rows};
+pub use vm_states::{
+    CallOp, End, Fetched, Instruction, LeaveOp, MakeOp, ModuleName, Row, Rows, Step,
+};

@@ -5,14 +5,14 @@ ghost use Rattle.vm_states.specs.bc_library.Shelf.{Shelf};
 ghost use Rattle.prim_faults.specs.Sights.{under, KnowsAnswer};
 ghost use Rattle.vm_states.specs.vm_frames.Calls.{OfRunning};
 ghost use Rattle.vm_states.specs.vm_fetching.declared.instruction.Fetched.{Fetched as FetchedHere};
-ghost use Rattle.vm_states.specs.vm_fetching.declared.operations.PlainOp.TheVariants as plain_ops;
+ghost use Rattle.vm_states.specs.vm_fetching.declared.operations.LeaveOp.TheVariants as leave_ops;
 ghost use Rattle.vm_states.specs.vm_fetching.Fetches.{IsVerifiedRow};
 ghost use Rattle.vm_states.specs.Means.{Program, Means};
 ghost use Rattle.vm_states.specs.Ready.{IsReady};
 ghost use Rattle.vm_states.specs.State.{IsState};
 ghost use Rattle.vm_states.specs.Acting.{Tells};
 ghost use Rattle.state_exits.specs.Modules.{AreNames};
-ghost use Rattle.state_exits.specs.Running.{fetched_plain, place_at, RunsAt, RunsOnBehind, StopsOn};
+ghost use Rattle.state_exits.specs.Running.{fetched_leave, place_at, RunsAt, RunsOnBehind, StopsOn};
 
 use arena_heap::{Arena, Constants};
 use bc_machine::sound_law;
@@ -72,10 +72,10 @@ pub fn raise_on<C: Constants>(
     names: &[ModuleName],
     row: &Row<'_>,
 ) -> Option<End>
-    requires runs { (end : ℕ) × under C.Constants consts.now RunsAt names.now arena.old.objects frames.old row.now (fetched_plain plain_ops.RaiseObj end) }
+    requires runs { (end : ℕ) × under C.Constants consts.now RunsAt names.now arena.old.objects frames.old row.now (fetched_leave leave_ops.RaiseObj end) }
     ensures comes { (p : Program) (end : ℕ)
         → under C.Constants consts.now (RunsOnBehind p) names.now row.now
-        (fetched_plain plain_ops.RaiseObj end) arena.old arena.new modules.old modules.new frames.old frames.new result }
+        (fetched_leave leave_ops.RaiseObj end) arena.old arena.new modules.old modules.new frames.old frames.new result }
     ensures rooms { frames.new ≡ record frames.old { calls = frames.new.calls } }
     ensures registry { modules.new.room ≡ modules.old.room }
 {
@@ -95,10 +95,10 @@ pub fn raise_again_on<C: Constants>(
     names: &[ModuleName],
     row: &Row<'_>,
 ) -> Option<End>
-    requires runs { (end : ℕ) × under C.Constants consts.now RunsAt names.now arena.old.objects frames.old row.now (fetched_plain plain_ops.RaiseLast end) }
+    requires runs { (end : ℕ) × under C.Constants consts.now RunsAt names.now arena.old.objects frames.old row.now (fetched_leave leave_ops.RaiseLast end) }
     ensures comes { (p : Program) (end : ℕ)
         → under C.Constants consts.now (RunsOnBehind p) names.now row.now
-        (fetched_plain plain_ops.RaiseLast end) arena.old arena.new modules.old modules.new frames.old frames.new result }
+        (fetched_leave leave_ops.RaiseLast end) arena.old arena.new modules.old modules.new frames.old frames.new result }
     ensures rooms { frames.new ≡ record frames.old { calls = frames.new.calls } }
     ensures registry { modules.new.room ≡ modules.old.room }
 {

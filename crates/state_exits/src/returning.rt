@@ -8,11 +8,11 @@ ghost use Rattle.prim_faults.specs.arena_heap.declared.value.ConstNo.{ConstNo as
 ghost use Rattle.vm_states.specs.bc_rows.declared.row.Row.{Row as CodeRow};
 ghost use Rattle.prim_faults.specs.Faults.{IsKnown};
 ghost use Rattle.prim_faults.specs.Sights.{under};
-ghost use Rattle.vm_states.specs.vm_fetching.declared.operations.PlainOp.TheVariants as plain_ops;
+ghost use Rattle.vm_states.specs.vm_fetching.declared.operations.LeaveOp.TheVariants as leave_ops;
 ghost use Rattle.vm_states.specs.frame_exits.Known.{IsKnownCall, IsKnownAfter};
 ghost use Rattle.vm_states.specs.frame_exits.declared.ends.After.TheVariants as afters;
 ghost use Rattle.vm_states.specs.Means.{Program, Means};
-ghost use Rattle.state_exits.specs.Running.{fetched_plain, RunsWith, RunsOnBehind};
+ghost use Rattle.state_exits.specs.Running.{fetched_leave, RunsWith, RunsOnBehind};
 ghost use Rattle.state_exits.specs.Waiting.{IsWaiting, IsSettling, Settles};
 
 use arena_heap::{Arena, Constants, Value};
@@ -88,11 +88,11 @@ pub fn return_on<C: Constants>(
 ) -> Option<End>
     requires runs { (end : ℕ) × (row : CodeRow)
         × under C.Constants consts.now RunsWith names.now library.now arena.old modules.now frames.old row
-        (fetched_plain plain_ops.ReturnValue end) }
+        (fetched_leave leave_ops.ReturnValue end) }
     requires rows { rows.now ≡ library.now }
     ensures comes { (p : Program) (end : ℕ) (row : CodeRow) → p.shelf ≡ library.now
         → under C.Constants consts.now (RunsOnBehind p) names.now row
-        (fetched_plain plain_ops.ReturnValue end) arena.old arena.new modules.now modules.now frames.old frames.new result }
+        (fetched_leave leave_ops.ReturnValue end) arena.old arena.new modules.now modules.now frames.old frames.new result }
     ensures rooms { frames.new ≡ record frames.old { calls = frames.new.calls } }
 {
     keeps_law();

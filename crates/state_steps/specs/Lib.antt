@@ -6,5 +6,4 @@ pub use Rattle.state_calls.specs.prim_walks
 pub use Rattle.vm_frames.specs as vm_frames
 pub mod Calling
 pub mod Comes
-pub mod Leaves
 pub mod Values

@@ -5,10 +5,10 @@ ghost use Rattle.mpy_io.specs.Count.{Counts};
 ghost use Rattle.port_set.specs.Counts.{CountsKeep};
 ghost use Rattle.state_values.specs.bc_library.Constants.{items_at, text_at};
 ghost use Rattle.state_values.specs.vm_frames.Calls.{OfRunning};
-ghost use Rattle.state_calls.specs.vm_fetching.declared.instruction.Instruction.TheVariants as fetched_as;
+ghost use Rattle.state_calls.specs.vm_fetching.Instructions as fetched_as;
 ghost use Rattle.state_values.specs.vm_states.Means.{Program};
 ghost use Rattle.state_calls.specs.Runs.{IsFetchedAt};
-ghost use Rattle.state_calls.specs.Taken.{CallsValue, IsTaken};
+ghost use Rattle.state_calls.specs.Taken.{IsTaken};
 ghost use Rattle.state_exits.specs.Running.{RunsWith};
 ghost use Rattle.state_steps.specs.Calling.{end_in, CallsOnBehind, WentBehind};
 
@@ -18,7 +18,7 @@ use mpy_io::{Failed, Port, Sink};
 use port_set::PortSet;
 use prim_modules::Modules;
 use state_calls::{Bindings, CallStop, Invocation, Operands, call_on};
-use state_exits::{End, ModuleName, NumberOp, Row, Rows, registered_law, stop_on};
+use state_exits::{CallOp, End, ModuleName, Row, Rows, registered_law, stop_on};
 use vm_frames::Frames;
 
 /// CALL_FUNCTION or CALL_METHOD, that was fetched for the running call, of this row, and taken by `state_calls::take_call`, where its
@@ -37,24 +37,23 @@ pub fn call<S: Sink, P: Port>(
     operands: &Operands,
     bindings: &mut Bindings,
     row: &Row<'_>,
-    op: NumberOp,
+    op: CallOp,
     number: u32,
     end: u32,
     call: Invocation,
 ) -> Result<Option<End>, Failed>
-    requires calls { CallsValue op }
     requires runs { RunsWith (text_at library.now) (items_at library.now) names.now library.now arena.old modules.old frames.old row.now (record {
-      instruction = fetched_as.Number op number;
+      instruction = fetched_as.call op number;
       end = end;
     }) }
-    requires read { OfRunning (IsFetchedAt library.now (record { instruction = fetched_as.Number op number; end = end })) frames.old.calls }
+    requires read { OfRunning (IsFetchedAt library.now (record { instruction = fetched_as.call op number; end = end })) frames.old.calls }
     requires few { frames.old.slot_room < 2 ^ 32 }
     requires roomy { frames.old.slot_room ≤ bindings.old.room }
     requires rows { rows.now ≡ library.now }
     requires taken { IsTaken library.now op number arena.old frames.old operands.now call }
     ensures comes { (p : Program) → p.shelf ≡ library.now
         → CallsOnBehind S.told S.count p (text_at library.now) (items_at library.now) names.now row.now (record {
-          instruction = fetched_as.Number op number;
+          instruction = fetched_as.call op number;
           end = end;
         }) call.callee operands.now (record {
           heap = arena.old;
@@ -67,7 +66,7 @@ pub fn call<S: Sink, P: Port>(
         }) modules.old modules.new frames.old frames.new result }
     ensures went { (p : Program) → p.shelf ≡ library.now
         → WentBehind p (text_at library.now) (items_at library.now) names.now row.now (record {
-          instruction = fetched_as.Number op number;
+          instruction = fetched_as.call op number;
           end = end;
         }) call.size arena.old arena.new modules.old modules.new frames.old frames.new (end_in result) }
     ensures counts { Counts (S.count out.old) (S.count out.new) (is_err result) }

@@ -3,10 +3,9 @@
 ghost use Rattle.std.specs.Prelude.{◌≡◌};
 ghost use Rattle.state_calls.specs.bc_rows.declared.row.Row.{Row as CodeRow};
 ghost use Rattle.state_calls.specs.prim_faults.Sights.{under};
-ghost use Rattle.state_calls.specs.vm_fetching.declared.operations.PlainOp.TheVariants as plain_ops;
 ghost use Rattle.state_values.specs.vm_states.Means.{Program};
 ghost use Rattle.state_exits.specs.Keeping.{KeepsCause};
-ghost use Rattle.state_exits.specs.Running.{fetched_plain, RunsWith};
+ghost use Rattle.state_exits.specs.Running.{fetched_finish, RunsWith};
 ghost use Rattle.state_steps.specs.Comes.{ComesOnBehind};
 
 use arena_heap::{Arena, Constants};
@@ -30,11 +29,11 @@ pub fn finish<C: Constants>(
 ) -> Option<End>
     requires runs { (row : CodeRow)
         × (h : under C.Constants consts.now RunsWith names.now library.now arena.old modules.old frames.old row
-        (fetched_plain plain_ops.EndFinally end)) × KeepsCause h.runs.program frames.old }
+        (fetched_finish end)) × KeepsCause h.runs.program frames.old }
     requires rows { rows.now ≡ library.now }
     ensures comes { (p : Program) (row : CodeRow) → p.shelf ≡ library.now → KeepsCause p frames.old
         → under C.Constants consts.now (ComesOnBehind p) names.now row
-        (fetched_plain plain_ops.EndFinally end) 0 arena.old arena.new modules.old modules.new frames.old frames.new result }
+        (fetched_finish end) 0 arena.old arena.new modules.old modules.new frames.old frames.new result }
     ensures rooms { frames.new ≡ record frames.old { calls = frames.new.calls } }
     ensures registry { modules.new.room ≡ modules.old.room }
 {

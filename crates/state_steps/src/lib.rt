@@ -13,4 +13,4 @@ pub use finishing::finish;
 pub use imports::import;
 pub use leaving::leave;
 pub use making::{make, make_with};
-pub use values::operate;
+pub use values::{operate, operate_binary};

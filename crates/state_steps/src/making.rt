@@ -2,8 +2,8 @@
 
 ghost use Rattle.std.specs.Prelude.{◌≡◌};
 ghost use Rattle.state_values.specs.bc_library.Constants.{items_at, text_at};
-ghost use Rattle.state_calls.specs.vm_fetching.declared.instruction.Instruction.TheVariants as fetched_as;
-ghost use Rattle.state_calls.specs.vm_fetching.declared.operations.NumberOp.TheVariants as number_ops;
+ghost use Rattle.state_calls.specs.vm_fetching.Instructions as fetched_as;
+ghost use Rattle.state_calls.specs.vm_fetching.declared.operations.MakeOp.TheVariants as make_ops;
 ghost use Rattle.state_values.specs.vm_states.Means.{Program};
 ghost use Rattle.state_exits.specs.Running.{RunsWith};
 ghost use Rattle.state_steps.specs.Comes.{ComesOnBehind};
@@ -30,13 +30,13 @@ pub fn make(
     end: u32,
 ) -> Option<End>
     requires runs { RunsWith (text_at library.now) (items_at library.now) names.now library.now arena.old modules.old frames.old row.now (record {
-      instruction = fetched_as.Number number_ops.MakeFunction number;
+      instruction = fetched_as.make make_ops.MakeFunction number;
       end = end;
     }) }
     requires rows { rows.now ≡ library.now }
     ensures comes { (p : Program) → p.shelf ≡ library.now
         → ComesOnBehind p (text_at library.now) (items_at library.now) names.now row.now (record {
-          instruction = fetched_as.Number number_ops.MakeFunction number;
+          instruction = fetched_as.make make_ops.MakeFunction number;
           end = end;
         }) 0 arena.old arena.new modules.old modules.new frames.old frames.new result }
     ensures rooms { frames.new ≡ record frames.old { calls = frames.new.calls } }
@@ -65,13 +65,13 @@ pub fn make_with(
     end: u32,
 ) -> Option<End>
     requires runs { RunsWith (text_at library.now) (items_at library.now) names.now library.now arena.old modules.old frames.old row.now (record {
-      instruction = fetched_as.Number number_ops.MakeFunctionDefargs number;
+      instruction = fetched_as.make make_ops.MakeFunctionDefargs number;
       end = end;
     }) }
     requires rows { rows.now ≡ library.now }
     ensures comes { (p : Program) → p.shelf ≡ library.now
         → ComesOnBehind p (text_at library.now) (items_at library.now) names.now row.now (record {
-          instruction = fetched_as.Number number_ops.MakeFunctionDefargs number;
+          instruction = fetched_as.make make_ops.MakeFunctionDefargs number;
           end = end;
         }) 0 arena.old arena.new modules.old modules.new frames.old frames.new result }
     ensures rooms { frames.new ≡ record frames.old { calls = frames.new.calls } }

@@ -20,9 +20,8 @@ use Rattle.vm_states.specs.frame_values.Effects.{JumpSteps, Leaves}
 use Rattle.vm_states.specs.frame_values.Slots.{HasIterator, Puts, with_item, without}
 use Rattle.vm_states.specs.frame_exits.Known.{IsKnownSlot}
 use Rattle.vm_states.proofs.frame_exits_lemmas.Keeping.{value_later}
-use Rattle.vm_states.specs.vm_fetching.declared.operations.JumpOp.TheVariants as jump_ops
 use Rattle.vm_states.specs.vm_fetching.declared.instruction.Fetched.{Fetched}
-use Rattle.vm_states.specs.vm_fetching.declared.instruction.Instruction.TheVariants as fetched
+use Rattle.vm_states.specs.vm_fetching.Instructions as fetched
 use Rattle.vm_states.specs.State.{IsKnownSlot as IsKnownSlotOf}
 use Rattle.vm_states.specs.Acting.{RunsOver}
 use Rattle.state_values.specs.Keeping.{ActsKeeping}
@@ -57,7 +56,7 @@ module _ {texts : StrNo → Option (List ℕ)} {tuples : ConstNo → Option (Lis
   four_slots = of_running h (λ c. 4 ≤ length c.slots) (let n = ap length it.are in omega (arith, n))
 
 abbrev for_at : (target end : ℕ) → Fetched
-for_at target end = record { instruction = fetched.Jump jump_ops.ForIter target; end = end }
+for_at target end = record { instruction = fetched.for_iter target; end = end }
 
 module _ (acts : ActsLaw) (target end : ℕ) (old new : Calls) {texts : StrNo → Option (List ℕ)} {tuples : ConstNo → Option (List Value)} {before behind : Heap Value ℕ} {result : Result (Unit {0}) Stop} (leaves : Leaves texts tuples before behind result)
     (steps : JumpSteps texts tuples (Jumps ops.ForIter) target end before behind old.calls new.calls result) where

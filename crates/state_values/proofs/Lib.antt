@@ -6,6 +6,7 @@ mod Collecting
 mod Constancy
 mod Doing
 mod Ending
+mod Families
 mod Finding
 mod Iterating
 mod Lacking

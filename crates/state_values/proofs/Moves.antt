@@ -21,34 +21,26 @@ use Rattle.vm_states.specs.bc_labels.Positions.{Starts, position_in}
 use Rattle.vm_states.specs.frame_moves.Shown.{Tables, Steps, IsNext, IsAt, view_of, running_of, step_of}
 use Rattle.vm_states.specs.frame_moves.Stacks.{gone}
 use Rattle.vm_states.specs.Finds.{FindsPlain, GoesOn}
-use Rattle.vm_states.specs.vm_fetching.declared.operations.PlainOp.{PlainOp}
-use Rattle.vm_states.specs.vm_fetching.declared.operations.PlainOp.TheVariants as plain_ops
+use Rattle.vm_states.specs.vm_fetching.declared.operations.MoveOp.{MoveOp}
+use Rattle.vm_states.specs.vm_fetching.declared.operations.MoveOp.TheVariants as move_ops
 use Rattle.vm_states.specs.vm_fetching.declared.instruction.Fetched.{Fetched}
-use Rattle.vm_states.specs.vm_fetching.Operations.{plain_op}
+use Rattle.vm_states.specs.vm_fetching.Operations.{move_op}
 use Rattle.vm_states.specs.Means.{Program, Means}
 use Rattle.vm_states.specs.Ready.{item_at, IsReady}
 use Rattle.vm_states.specs.Running.{IsOfModule, IsRunning}
-use Rattle.state_values.specs.Moving.{MovesSlots, moved_slots, fetched_plain, Goes}
+use Rattle.state_values.specs.Moving.{moved_slots, fetched_move, Goes}
 use Rattle.state_values.specs.Needs.{HasRoom, Needs}
 
-goes_on : (op : PlainOp) → MovesSlots op → GoesOn (Plain (instrs.Plain (plain_op op)))
-goes_on plain_ops.LoadConstFalse h = tt
-goes_on plain_ops.LoadConstNone h = tt
-goes_on plain_ops.LoadConstTrue h = tt
-goes_on plain_ops.LoadNull h = tt
-goes_on plain_ops.DupTop h = tt
-goes_on plain_ops.DupTopTwo h = tt
-goes_on plain_ops.PopTop h = tt
-goes_on plain_ops.RotTwo h = tt
-goes_on plain_ops.RotThree h = tt
-goes_on plain_ops.LoadSubscr h = absurd h
-goes_on plain_ops.StoreSubscr h = absurd h
-goes_on plain_ops.EndFinally h = absurd h
-goes_on plain_ops.GetIterStack h = absurd h
-goes_on plain_ops.StoreMap h = absurd h
-goes_on plain_ops.ReturnValue h = absurd h
-goes_on plain_ops.RaiseLast h = absurd h
-goes_on plain_ops.RaiseObj h = absurd h
+goes_on : (op : MoveOp) → GoesOn (Plain (instrs.Plain (move_op op)))
+goes_on move_ops.LoadConstFalse = tt
+goes_on move_ops.LoadConstNone = tt
+goes_on move_ops.LoadConstTrue = tt
+goes_on move_ops.LoadNull = tt
+goes_on move_ops.DupTop = tt
+goes_on move_ops.DupTopTwo = tt
+goes_on move_ops.PopTop = tt
+goes_on move_ops.RotTwo = tt
+goes_on move_ops.RotThree = tt
 
 -- what is found on the frame of a call whose slots are counted
 module _ (plan : Plan) (library : Library) (code : Code) (frame : Frame) (c : Call) (cs : List Call) (slot_room entry_room : ℕ)
@@ -56,32 +48,24 @@ module _ (plan : Plan) (library : Library) (code : Code) (frame : Frame) (c : Ca
   abbrev S : Calls
   S = record { calls = c ∷ cs; slot_room = slot_room; entry_room = entry_room }
 
-  needs : (op : PlainOp) → MovesSlots op → FindsPlain plan library code frame (plain_op op) → Needs op S
-  needs plain_ops.LoadConstFalse h f = room
-  needs plain_ops.LoadConstNone h f = room
-  needs plain_ops.LoadConstTrue h f = room
-  needs plain_ops.LoadNull h f = room
-  needs plain_ops.DupTop h f = let n = ap length f.0.are in (omega (arith, n, count), room)
-  needs plain_ops.DupTopTwo h f = let n = ap length f.0.are in let k = f.1 in (omega (arith, n, count), omega (arith, n, k, count, planned))
-  needs plain_ops.PopTop h f = let n = ap length f.are in omega (arith, n, count)
-  needs plain_ops.RotTwo h f = let n = ap length f.are in omega (arith, n, count)
-  needs plain_ops.RotThree h f = let n = ap length f.are in omega (arith, n, count)
-  needs plain_ops.LoadSubscr h f = absurd h
-  needs plain_ops.StoreSubscr h f = absurd h
-  needs plain_ops.EndFinally h f = absurd h
-  needs plain_ops.GetIterStack h f = absurd h
-  needs plain_ops.StoreMap h f = absurd h
-  needs plain_ops.ReturnValue h f = absurd h
-  needs plain_ops.RaiseLast h f = absurd h
-  needs plain_ops.RaiseObj h f = absurd h
+  needs : (op : MoveOp) → FindsPlain plan library code frame (move_op op) → Needs op S
+  needs move_ops.LoadConstFalse f = room
+  needs move_ops.LoadConstNone f = room
+  needs move_ops.LoadConstTrue f = room
+  needs move_ops.LoadNull f = room
+  needs move_ops.DupTop f = let n = ap length f.0.are in (omega (arith, n, count), room)
+  needs move_ops.DupTopTwo f = let n = ap length f.0.are in let k = f.1 in (omega (arith, n, count), omega (arith, n, k, count, planned))
+  needs move_ops.PopTop f = let n = ap length f.are in omega (arith, n, count)
+  needs move_ops.RotTwo f = let n = ap length f.are in omega (arith, n, count)
+  needs move_ops.RotThree f = let n = ap length f.are in omega (arith, n, count)
 
 pub finds_needs : ((t : Tables) (c : Call) → length (frame_of (view_of t) c).slots ≡ length c.slots)
-    → (p : Program) (s : Calls) (row : Row) (op : PlainOp) (end : ℕ) → IsRunning p s → (r : IsReady p s row (fetched_plain op end)) → MovesSlots op → Needs op s
-finds_needs count p s row op end run r moves =
+    → (p : Program) (s : Calls) (row : Row) (op : MoveOp) (end : ℕ) → IsRunning p s → (r : IsReady p s row (fetched_move op end)) → Needs op s
+finds_needs count p s row op end run r =
     let plan = p.plans (p.tables.module_name r.first.module_number) r.first.code in
     let h : Needs op (record s { calls = r.first ∷ r.others }) =
     needs plan p.library r.code (frame_of (view_of p.tables) r.first) r.first r.others s.slot_room s.entry_room (count p.tables r.first) r.slots
-    (run.rooms.slots (p.tables.module_name r.first.module_number) r.first.code r.code r.code_is) op moves r.finds in
+    (run.rooms.slots (p.tables.module_name r.first.module_number) r.first.code r.code r.code_is) op r.finds in
     subst (λ (z : List Call). Needs op (record s { calls = z })) (sym r.are) h
 
 abbrev Keeps : Type 0
@@ -101,12 +85,12 @@ goes_behind keeps s new fetched st locals p row means run r on steps moved =
       runs = keeps p s new row fetched r fetched.end st locals 0 none none means run (r.begins on) moved (steps none r.next p.library r.place 0);
     }
 
-pub goes : Keeps → (s new : Calls) (op : PlainOp) (end : ℕ) → MovesSlots op
-    → ((tables : Tables) (w : PlainWorld) → IsNext tables end s.calls → Steps tables w (Plain (instrs.Plain (plain_op op))) s.calls new.calls)
+pub goes : Keeps → (s new : Calls) (op : MoveOp) (end : ℕ)
+    → ((tables : Tables) (w : PlainWorld) → IsNext tables end s.calls → Steps tables w (Plain (instrs.Plain (move_op op))) s.calls new.calls)
     → new ≡ on_running (λ c. gone end (moved_slots op c.slots) c) s
-    → (p : Program) (row : Row) → Means p → IsRunning p s → IsReady p s row (fetched_plain op end) → Goes p s new
-goes keeps s new op end moves steps moved p row means run r =
-    goes_behind keeps s new (fetched_plain op end) (λ c. moved_slots op c.slots) (λ c. c.locals) p row means run r (goes_on op moves) (steps p.tables) moved
+    → (p : Program) (row : Row) → Means p → IsRunning p s → IsReady p s row (fetched_move op end) → Goes p s new
+goes keeps s new op end steps moved p row means run r =
+    goes_behind keeps s new (fetched_move op end) (λ c. moved_slots op c.slots) (λ c. c.locals) p row means run r (goes_on op) (steps p.tables) moved
 
 -- a frame always has room for a slot more
 pub room : (p : Program) (s : Calls) (row : Row) (fetched : Fetched) → IsReady p s row fetched → HasRoom s

@@ -15,8 +15,8 @@ use Rattle.vm_states.specs.vm_frames.Moves.{jumped as jumped_by}
 use Rattle.vm_states.specs.frame_moves.Stacks.{gone, doubled, doubled_two, turned_two, turned_three, entry_over, set_up}
 use Rattle.vm_states.specs.frame_exits.Known.{IsKnownSlot, KeepsException}
 use Rattle.vm_states.proofs.frame_exits_lemmas.Finishes.{jumped_known}
-use Rattle.vm_states.specs.vm_fetching.declared.operations.PlainOp.{PlainOp}
-use Rattle.vm_states.specs.vm_fetching.declared.operations.PlainOp.TheVariants as plain_ops
+use Rattle.vm_states.specs.vm_fetching.declared.operations.MoveOp.{MoveOp}
+use Rattle.vm_states.specs.vm_fetching.declared.operations.MoveOp.TheVariants as move_ops
 use Rattle.state_values.specs.Moving.{moved_slots}
 use Rattle.state_values.specs.Onward.{Changed}
 
@@ -57,24 +57,16 @@ module _ (texts : StrNo → Option (List ℕ)) (tuples : ConstNo → Option (Lis
       All-cons Known b (c ∷ a ∷ st) (All-head Known b (c ∷ st) rest)
       (All-cons Known c (a ∷ st) (All-head Known c st last) (All-cons Known a st (All-head Known a (b ∷ c ∷ st) k) (All-tail Known c st last)))
 
-  slots_known : (op : PlainOp) (st : List Slot) → All Known st → All Known (moved_slots op st)
-  slots_known plain_ops.LoadConstFalse st k = All-cons Known (slots.Value (values.Bool false)) st (true_known false) k
-  slots_known plain_ops.LoadConstNone st k = All-cons Known (slots.Value values.None) st (record { leads = record { meets = tt; small = tt }; told = tt }) k
-  slots_known plain_ops.LoadConstTrue st k = All-cons Known (slots.Value (values.Bool true)) st (true_known true) k
-  slots_known plain_ops.LoadNull st k = All-cons Known slots.Null st tt k
-  slots_known plain_ops.DupTop st k = doubled_known st k
-  slots_known plain_ops.DupTopTwo st k = doubled_two_known st k
-  slots_known plain_ops.PopTop st k = All-drop Known 1 st k
-  slots_known plain_ops.RotTwo st k = turned_two_known st k
-  slots_known plain_ops.RotThree st k = turned_three_known st k
-  slots_known plain_ops.LoadSubscr st k = k
-  slots_known plain_ops.StoreSubscr st k = k
-  slots_known plain_ops.EndFinally st k = k
-  slots_known plain_ops.GetIterStack st k = k
-  slots_known plain_ops.StoreMap st k = k
-  slots_known plain_ops.ReturnValue st k = k
-  slots_known plain_ops.RaiseLast st k = k
-  slots_known plain_ops.RaiseObj st k = k
+  slots_known : (op : MoveOp) (st : List Slot) → All Known st → All Known (moved_slots op st)
+  slots_known move_ops.LoadConstFalse st k = All-cons Known (slots.Value (values.Bool false)) st (true_known false) k
+  slots_known move_ops.LoadConstNone st k = All-cons Known (slots.Value values.None) st (record { leads = record { meets = tt; small = tt }; told = tt }) k
+  slots_known move_ops.LoadConstTrue st k = All-cons Known (slots.Value (values.Bool true)) st (true_known true) k
+  slots_known move_ops.LoadNull st k = All-cons Known slots.Null st tt k
+  slots_known move_ops.DupTop st k = doubled_known st k
+  slots_known move_ops.DupTopTwo st k = doubled_two_known st k
+  slots_known move_ops.PopTop st k = All-drop Known 1 st k
+  slots_known move_ops.RotTwo st k = turned_two_known st k
+  slots_known move_ops.RotThree st k = turned_three_known st k
 
   module _ (old new : Calls) where
     -- at an offset, with other slots
@@ -85,7 +77,7 @@ module _ (texts : StrNo → Option (List ℕ)) (tuples : ConstNo → Option (Lis
       known = λ modules c k. record { of_module = k.of_module; names = k.names; role = k.role; locals = k.locals; slots = known c k.slots; entries = k.entries };
     }
 
-    pub moved : (end : ℕ) (op : PlainOp) → new ≡ on_running (λ c. gone end (moved_slots op c.slots) c) old → Changed texts tuples objects old new
+    pub moved : (end : ℕ) (op : MoveOp) → new ≡ on_running (λ c. gone end (moved_slots op c.slots) c) old → Changed texts tuples objects old new
     moved end op e = slots_changed end (λ c. moved_slots op c.slots) (λ c k. slots_known op c.slots k) e
 
     pub pushed : (end : ℕ) (slot : Slot) → Known slot → new ≡ on_running (λ c. gone end (slot ∷ c.slots) c) old → Changed texts tuples objects old new

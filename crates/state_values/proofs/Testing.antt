@@ -20,39 +20,34 @@ use Rattle.vm_states.specs.frame_values.Effects.{Layout, tables_of}
 use Rattle.vm_states.specs.Finds.{FindsJump}
 use Rattle.vm_states.specs.OnTop as machine
 use Rattle.vm_states.specs.frame_exits.Known.{IsKnownSlot}
-use Rattle.vm_states.specs.vm_fetching.Operations.{jump_op}
-use Rattle.vm_states.specs.vm_fetching.declared.operations.JumpOp.{JumpOp}
-use Rattle.vm_states.specs.vm_fetching.declared.operations.JumpOp.TheVariants as jump_ops
+use Rattle.vm_states.specs.vm_fetching.Operations.{test_op}
+use Rattle.vm_states.specs.vm_fetching.declared.operations.TestOp.{TestOp}
+use Rattle.vm_states.specs.vm_fetching.declared.operations.TestOp.TheVariants as test_ops
 use Rattle.vm_states.specs.vm_fetching.declared.instruction.Fetched.{Fetched}
-use Rattle.vm_states.specs.vm_fetching.declared.instruction.Instruction.TheVariants as fetched
+use Rattle.vm_states.specs.vm_fetching.Instructions as fetched
 use Rattle.state_values.specs.Onward.{StartsBehind, DoesBehind, Onward}
-use Rattle.state_values.specs.Tests.{IsTest, tested}
+use Rattle.state_values.specs.Tests.{tested}
 use Rattle.state_values.proofs.Doing.{of_program, layout_of, at_first}
 use Rattle.state_values.proofs.Shapes.{slots_onward}
 
 -- of each of the four, so of the one that tests
-any_test : (P : JumpOp → Type 0) → P jump_ops.PopJumpIfTrue → P jump_ops.PopJumpIfFalse → P jump_ops.JumpIfTrueOrPop → P jump_ops.JumpIfFalseOrPop → (op : JumpOp) → IsTest op → P op
-any_test P a b c d jump_ops.PopJumpIfTrue t = a
-any_test P a b c d jump_ops.PopJumpIfFalse t = b
-any_test P a b c d jump_ops.JumpIfTrueOrPop t = c
-any_test P a b c d jump_ops.JumpIfFalseOrPop t = d
-any_test P a b c d jump_ops.Jump t = absurd t
-any_test P a b c d jump_ops.SetupExcept t = absurd t
-any_test P a b c d jump_ops.SetupFinally t = absurd t
-any_test P a b c d jump_ops.PopExceptJump t = absurd t
-any_test P a b c d jump_ops.ForIter t = absurd t
+any_test : (P : TestOp → Type 0) → P test_ops.PopJumpIfTrue → P test_ops.PopJumpIfFalse → P test_ops.JumpIfTrueOrPop → P test_ops.JumpIfFalseOrPop → (op : TestOp) → P op
+any_test P a b c d test_ops.PopJumpIfTrue = a
+any_test P a b c d test_ops.PopJumpIfFalse = b
+any_test P a b c d test_ops.JumpIfTrueOrPop = c
+any_test P a b c d test_ops.JumpIfFalseOrPop = d
 
-pub finds_value : (plan : Plan) (library : Library) (code : Code) (frame : Frame) (op : JumpOp) (position : ℕ) → IsTest op → FindsJump plan library code frame (jump_op op) position → machine.OneValue frame.slots
-finds_value plan library code frame op position t =
-    any_test (λ o. FindsJump plan library code frame (jump_op o) position → machine.OneValue frame.slots) (λ f. f) (λ f. f) (λ f. f) (λ f. f) op t
+pub finds_value : (plan : Plan) (library : Library) (code : Code) (frame : Frame) (op : TestOp) (position : ℕ) → FindsJump plan library code frame (test_op op) position → machine.OneValue frame.slots
+finds_value plan library code frame op position =
+    any_test (λ o. FindsJump plan library code frame (test_op o) position → machine.OneValue frame.slots) (λ f. f) (λ f. f) (λ f. f) (λ f. f) op
 
-abbrev pub test_at : JumpOp → (target end : ℕ) → Fetched
-test_at op target end = record { instruction = fetched.Jump op target; end = end }
+abbrev pub test_at : TestOp → (target end : ℕ) → Fetched
+test_at op target end = record { instruction = fetched.test op target; end = end }
 
-pub starts_end : (op : JumpOp) (target end : ℕ) → IsTest op → StartsBehind (test_at op target end) end
-starts_end op target end t = any_test (λ o. StartsBehind (test_at o target end) end) (λ p s row r. r.begins tt) (λ p s row r. r.begins tt) (λ p s row r. r.begins tt) (λ p s row r. r.begins tt) op t
+pub starts_end : (op : TestOp) (target end : ℕ) → StartsBehind (test_at op target end) end
+starts_end op target end = any_test (λ o. StartsBehind (test_at o target end) end) (λ p s row r. r.begins tt) (λ p s row r. r.begins tt) (λ p s row r. r.begins tt) (λ p s row r. r.begins tt) op
 
-pub starts_target : (op : JumpOp) (target end : ℕ) → StartsBehind (test_at op target end) target
+pub starts_target : (op : TestOp) (target end : ℕ) → StartsBehind (test_at op target end) target
 starts_target op target end p s row r = r.target
 
 -- where it goes on: behind it, or at the target
@@ -73,25 +68,20 @@ module _ (texts : StrNo → Option (List ℕ)) (tuples : ConstNo → Option (Lis
   kept fetched offset starts moved =
       record { offset = offset; starts = starts; onward = slots_onward texts tuples objects old new offset (λ c. c.slots) (λ c k. k) moved }
 
-  pub lands : (op : JumpOp) (truth : Bool) → IsTest op → new ≡ on_running (tested op truth target end) old → Lands texts tuples objects (test_at op target end) old new
-  lands jump_ops.PopJumpIfTrue true t m = dropped (test_at jump_ops.PopJumpIfTrue target end) target (starts_target jump_ops.PopJumpIfTrue target end) m
-  lands jump_ops.PopJumpIfTrue false t m = dropped (test_at jump_ops.PopJumpIfTrue target end) end (starts_end jump_ops.PopJumpIfTrue target end tt) m
-  lands jump_ops.PopJumpIfFalse true t m = dropped (test_at jump_ops.PopJumpIfFalse target end) end (starts_end jump_ops.PopJumpIfFalse target end tt) m
-  lands jump_ops.PopJumpIfFalse false t m = dropped (test_at jump_ops.PopJumpIfFalse target end) target (starts_target jump_ops.PopJumpIfFalse target end) m
-  lands jump_ops.JumpIfTrueOrPop true t m = kept (test_at jump_ops.JumpIfTrueOrPop target end) target (starts_target jump_ops.JumpIfTrueOrPop target end) m
-  lands jump_ops.JumpIfTrueOrPop false t m = dropped (test_at jump_ops.JumpIfTrueOrPop target end) end (starts_end jump_ops.JumpIfTrueOrPop target end tt) m
-  lands jump_ops.JumpIfFalseOrPop true t m = dropped (test_at jump_ops.JumpIfFalseOrPop target end) end (starts_end jump_ops.JumpIfFalseOrPop target end tt) m
-  lands jump_ops.JumpIfFalseOrPop false t m = kept (test_at jump_ops.JumpIfFalseOrPop target end) target (starts_target jump_ops.JumpIfFalseOrPop target end) m
-  lands jump_ops.Jump truth t m = absurd t
-  lands jump_ops.SetupExcept truth t m = absurd t
-  lands jump_ops.SetupFinally truth t m = absurd t
-  lands jump_ops.PopExceptJump truth t m = absurd t
-  lands jump_ops.ForIter truth t m = absurd t
+  pub lands : (op : TestOp) (truth : Bool) → new ≡ on_running (tested op truth target end) old → Lands texts tuples objects (test_at op target end) old new
+  lands test_ops.PopJumpIfTrue true m = dropped (test_at test_ops.PopJumpIfTrue target end) target (starts_target test_ops.PopJumpIfTrue target end) m
+  lands test_ops.PopJumpIfTrue false m = dropped (test_at test_ops.PopJumpIfTrue target end) end (starts_end test_ops.PopJumpIfTrue target end) m
+  lands test_ops.PopJumpIfFalse true m = dropped (test_at test_ops.PopJumpIfFalse target end) end (starts_end test_ops.PopJumpIfFalse target end) m
+  lands test_ops.PopJumpIfFalse false m = dropped (test_at test_ops.PopJumpIfFalse target end) target (starts_target test_ops.PopJumpIfFalse target end) m
+  lands test_ops.JumpIfTrueOrPop true m = kept (test_at test_ops.JumpIfTrueOrPop target end) target (starts_target test_ops.JumpIfTrueOrPop target end) m
+  lands test_ops.JumpIfTrueOrPop false m = dropped (test_at test_ops.JumpIfTrueOrPop target end) end (starts_end test_ops.JumpIfTrueOrPop target end) m
+  lands test_ops.JumpIfFalseOrPop true m = dropped (test_at test_ops.JumpIfFalseOrPop target end) end (starts_end test_ops.JumpIfFalseOrPop target end) m
+  lands test_ops.JumpIfFalseOrPop false m = kept (test_at test_ops.JumpIfFalseOrPop target end) target (starts_target test_ops.JumpIfFalseOrPop target end) m
 
 -- the jump does what the machine's instruction does, by the truth of the top value
-pub does_test : (texts : StrNo → Option (List ℕ)) (tuples : ConstNo → Option (List Value)) (heap : Heap Value ℕ) (op : JumpOp) (truth : Bool) (target end : ℕ) (old new : Calls)
+pub does_test : (texts : StrNo → Option (List ℕ)) (tuples : ConstNo → Option (List Value)) (heap : Heap Value ℕ) (op : TestOp) (truth : Bool) (target end : ℕ) (old new : Calls)
     → ((layout : Layout) (w : PlainWorld) → Tests (tables_of texts tuples layout) (world_of (tables_of texts tuples layout) w heap) truth old.calls)
-    → ((tables : Tables) (w : PlainWorld) (position : ℕ) → IsAt tables target position old.calls → IsNext tables end old.calls → Tests tables w truth old.calls → step.Steps tables w (Jumps (jump_op op) position) old.calls new.calls)
+    → ((tables : Tables) (w : PlainWorld) (position : ℕ) → IsAt tables target position old.calls → IsNext tables end old.calls → Tests tables w truth old.calls → step.Steps tables w (Jumps (test_op op) position) old.calls new.calls)
     → DoesBehind texts tuples (test_at op target end) 0 heap heap old new (Ok tt)
 does_test texts tuples heap op truth target end old new tests steps p row tells r =
     let there = of_program texts tuples p tells (λ t u. (layout : Layout) (w : PlainWorld) → Tests (tables_of t u layout) (world_of (tables_of t u layout) w heap) truth old.calls) tests in

@@ -17,7 +17,6 @@ pub mod Moving
 pub mod Needs
 pub mod Onward
 pub mod Operands
-pub mod Operations
 pub mod Operators
 pub mod Storing
 pub mod Tests

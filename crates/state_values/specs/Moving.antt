@@ -1,4 +1,4 @@
--- Instructions without an operand that move slots alone, and what they come to.
+-- Instructions that move slots, and what they come to.
 use Rattle.std.specs.Prelude.{◌≡◌, ℕ, List, ◌∷◌, drop, true, false}
 use Rattle.vm_states.specs.mpy_base.Val.{PlainWorld}
 use Rattle.vm_states.specs.prim_names.arena_heap.declared.value.Value.TheVariants as values
@@ -9,57 +9,38 @@ use Rattle.vm_states.specs.vm_frames.declared.slot.Slot.TheVariants as slots
 use Rattle.vm_states.specs.vm_frames.Calls.{Calls}
 use Rattle.vm_states.specs.frame_moves.Shown.{running_of}
 use Rattle.vm_states.specs.frame_moves.Stacks.{doubled, doubled_two, turned_two, turned_three}
-use Rattle.vm_states.specs.vm_fetching.declared.operations.PlainOp.{PlainOp}
-use Rattle.vm_states.specs.vm_fetching.declared.operations.PlainOp.TheVariants as plain_ops
+use Rattle.vm_states.specs.vm_fetching.declared.operations.MoveOp.{MoveOp}
+use Rattle.vm_states.specs.vm_fetching.declared.operations.MoveOp.TheVariants as move_ops
+use Rattle.vm_states.specs.vm_fetching.declared.operations.ItemOp.{ItemOp}
 use Rattle.vm_states.specs.vm_fetching.declared.instruction.Fetched.{Fetched}
-use Rattle.vm_states.specs.vm_fetching.declared.instruction.Instruction.TheVariants as fetched
+use Rattle.vm_states.specs.vm_fetching.Instructions as fetched
 use Rattle.vm_states.specs.Means.{Program, Means}
 use Rattle.vm_states.specs.Ready.{IsReady}
 use Rattle.vm_states.specs.Running.{IsRunning}
 
--- the operation moves slots alone
-abbrev pub MovesSlots : PlainOp → Type 0
-MovesSlots plain_ops.LoadConstFalse = Unit {0}
-MovesSlots plain_ops.LoadConstNone = Unit {0}
-MovesSlots plain_ops.LoadConstTrue = Unit {0}
-MovesSlots plain_ops.LoadNull = Unit {0}
-MovesSlots plain_ops.DupTop = Unit {0}
-MovesSlots plain_ops.DupTopTwo = Unit {0}
-MovesSlots plain_ops.PopTop = Unit {0}
-MovesSlots plain_ops.RotTwo = Unit {0}
-MovesSlots plain_ops.RotThree = Unit {0}
-MovesSlots plain_ops.LoadSubscr = ⊥
-MovesSlots plain_ops.StoreSubscr = ⊥
-MovesSlots plain_ops.EndFinally = ⊥
-MovesSlots plain_ops.GetIterStack = ⊥
-MovesSlots plain_ops.StoreMap = ⊥
-MovesSlots plain_ops.ReturnValue = ⊥
-MovesSlots plain_ops.RaiseLast = ⊥
-MovesSlots plain_ops.RaiseObj = ⊥
-
--- the slots behind it. No other operation moves them
-abbrev pub moved_slots : PlainOp → List Slot → List Slot
-moved_slots plain_ops.LoadConstFalse st = slots.Value (values.Bool false) ∷ st
-moved_slots plain_ops.LoadConstNone st = slots.Value values.None ∷ st
-moved_slots plain_ops.LoadConstTrue st = slots.Value (values.Bool true) ∷ st
-moved_slots plain_ops.LoadNull st = slots.Null ∷ st
-moved_slots plain_ops.DupTop st = doubled st
-moved_slots plain_ops.DupTopTwo st = doubled_two st
-moved_slots plain_ops.PopTop st = drop 1 st
-moved_slots plain_ops.RotTwo st = turned_two st
-moved_slots plain_ops.RotThree st = turned_three st
-moved_slots plain_ops.LoadSubscr st = st
-moved_slots plain_ops.StoreSubscr st = st
-moved_slots plain_ops.EndFinally st = st
-moved_slots plain_ops.GetIterStack st = st
-moved_slots plain_ops.StoreMap st = st
-moved_slots plain_ops.ReturnValue st = st
-moved_slots plain_ops.RaiseLast st = st
-moved_slots plain_ops.RaiseObj st = st
+-- the slots behind it
+abbrev pub moved_slots : MoveOp → List Slot → List Slot
+moved_slots move_ops.LoadConstFalse st = slots.Value (values.Bool false) ∷ st
+moved_slots move_ops.LoadConstNone st = slots.Value values.None ∷ st
+moved_slots move_ops.LoadConstTrue st = slots.Value (values.Bool true) ∷ st
+moved_slots move_ops.LoadNull st = slots.Null ∷ st
+moved_slots move_ops.DupTop st = doubled st
+moved_slots move_ops.DupTopTwo st = doubled_two st
+moved_slots move_ops.PopTop st = drop 1 st
+moved_slots move_ops.RotTwo st = turned_two st
+moved_slots move_ops.RotThree st = turned_three st
 
 -- the operation as it is fetched
-abbrev pub fetched_plain : PlainOp → (end : ℕ) → Fetched
-fetched_plain op end = record { instruction = fetched.Plain op; end = end }
+abbrev pub fetched_move : MoveOp → (end : ℕ) → Fetched
+fetched_move op end = record { instruction = fetched.move op; end = end }
+
+-- an operation on an item, as it is fetched
+abbrev pub fetched_item : ItemOp → (end : ℕ) → Fetched
+fetched_item op end = record { instruction = fetched.item op; end = end }
+
+-- an iterator that is put, as it is fetched
+abbrev pub fetched_iterate : (end : ℕ) → Fetched
+fetched_iterate end = record { instruction = fetched.iterate; end = end }
 
 -- the calls run a program, and this was fetched for the first of them
 pub record Runs (s : Calls) (fetched : Fetched) : Type 0 where

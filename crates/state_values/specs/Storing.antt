@@ -1,19 +1,11 @@
 -- Instructions that store a local.
-use Rattle.vm_states.specs.vm_fetching.declared.operations.NumberOp.{NumberOp}
-use Rattle.vm_states.specs.vm_fetching.declared.operations.NumberOp.TheVariants as number_ops
+use Rattle.vm_states.specs.vm_fetching.declared.operations.LocalOp.{LocalOp}
+use Rattle.vm_states.specs.vm_fetching.declared.operations.LocalOp.TheVariants as local_ops
 
 -- the operation stores a local
-abbrev pub StoresLocal : NumberOp → Type 0
-StoresLocal number_ops.StoreFast = Unit {0}
-StoresLocal number_ops.StoreFastN = Unit {0}
-StoresLocal number_ops.LoadFast = ⊥
-StoresLocal number_ops.LoadFastN = ⊥
-StoresLocal number_ops.DeleteFast = ⊥
-StoresLocal number_ops.BuildTuple = ⊥
-StoresLocal number_ops.BuildList = ⊥
-StoresLocal number_ops.BuildMap = ⊥
-StoresLocal number_ops.UnpackSequence = ⊥
-StoresLocal number_ops.MakeFunction = ⊥
-StoresLocal number_ops.MakeFunctionDefargs = ⊥
-StoresLocal number_ops.CallFunction = ⊥
-StoresLocal number_ops.CallMethod = ⊥
+abbrev pub StoresLocal : LocalOp → Type 0
+StoresLocal local_ops.StoreFast = Unit {0}
+StoresLocal local_ops.StoreFastN = Unit {0}
+StoresLocal local_ops.LoadFast = ⊥
+StoresLocal local_ops.LoadFastN = ⊥
+StoresLocal local_ops.DeleteFast = ⊥

@@ -1,8 +1,7 @@
-//! Operations on attributes, as they were fetched for calls of a program.
+//! Operations on attributes.
 
-ghost use Rattle.vm_states.specs.vm_fetching.declared.instruction.Instruction.TheVariants as fetched;
 ghost use Rattle.vm_states.specs.prim_names.prim_faults.Sights.{under};
-ghost use Rattle.vm_states.specs.vm_fetching.declared.operations.NameOp.TheVariants as name_ops;
+ghost use Rattle.vm_states.specs.vm_fetching.Instructions as fetched;
 ghost use Rattle.vm_states.specs.Acting.{RunsOver};
 ghost use Rattle.state_values.specs.Keeping.{ActsKeeping};
 
@@ -10,80 +9,26 @@ use crate::law::acting_law;
 use arena_heap::{Arena, Constants, StrNo};
 use prim_faults::Stop;
 use vm_frames::Frames;
-use vm_states::tops_law;
+use vm_states::{AttributeOp, tops_law};
 
-/// LOAD_ATTR.
-pub(crate) fn load_attr<C: Constants>(
+/// An attribute of a value. It makes no visits.
+pub fn attribute_on<C: Constants>(
     frames: &mut Frames,
     arena: &mut Arena,
     consts: &C,
+    op: AttributeOp,
     name: StrNo,
     end: u32,
 ) -> Result<(), Stop>
-    requires runs { under C.Constants consts.now RunsOver arena.old frames.old (record { instruction = fetched.Name name_ops.LoadAttr name; end = end }) }
-    ensures acts { under C.Constants consts.now ActsKeeping (record {
-      instruction = fetched.Name name_ops.LoadAttr name;
-      end = end;
-    }) 0 arena.old arena.new frames.old frames.new result }
+    requires runs { under C.Constants consts.now RunsOver arena.old frames.old (record { instruction = fetched.attribute op name; end = end }) }
+    ensures acts { under C.Constants consts.now ActsKeeping (record { instruction = fetched.attribute op name; end = end }) 0 arena.old arena.new frames.old frames.new result }
 {
     acting_law();
     tops_law();
-    frame_values::load_attr(frames, arena, consts, name, end)
-}
-
-/// LOAD_METHOD.
-pub(crate) fn load_method<C: Constants>(
-    frames: &mut Frames,
-    arena: &Arena,
-    consts: &C,
-    name: StrNo,
-    end: u32,
-) -> Result<(), Stop>
-    requires runs { under C.Constants consts.now RunsOver arena.now frames.old (record { instruction = fetched.Name name_ops.LoadMethod name; end = end }) }
-    ensures acts { under C.Constants consts.now ActsKeeping (record {
-      instruction = fetched.Name name_ops.LoadMethod name;
-      end = end;
-    }) 0 arena.now arena.now frames.old frames.new result }
-{
-    acting_law();
-    tops_law();
-    frame_values::load_method(frames, arena, consts, name, end)
-}
-
-/// STORE_ATTR.
-pub(crate) fn store_attr<C: Constants>(
-    frames: &mut Frames,
-    arena: &mut Arena,
-    consts: &C,
-    name: StrNo,
-    end: u32,
-) -> Result<(), Stop>
-    requires runs { under C.Constants consts.now RunsOver arena.old frames.old (record { instruction = fetched.Name name_ops.StoreAttr name; end = end }) }
-    ensures acts { under C.Constants consts.now ActsKeeping (record {
-      instruction = fetched.Name name_ops.StoreAttr name;
-      end = end;
-    }) 0 arena.old arena.new frames.old frames.new result }
-{
-    acting_law();
-    tops_law();
-    frame_values::store_attr(frames, arena, consts, name, end)
-}
-
-/// IMPORT_FROM.
-pub(crate) fn import_from<C: Constants>(
-    frames: &mut Frames,
-    arena: &mut Arena,
-    consts: &C,
-    name: StrNo,
-    end: u32,
-) -> Result<(), Stop>
-    requires runs { under C.Constants consts.now RunsOver arena.old frames.old (record { instruction = fetched.Name name_ops.ImportFrom name; end = end }) }
-    ensures acts { under C.Constants consts.now ActsKeeping (record {
-      instruction = fetched.Name name_ops.ImportFrom name;
-      end = end;
-    }) 0 arena.old arena.new frames.old frames.new result }
-{
-    acting_law();
-    tops_law();
-    frame_values::import_from(frames, arena, consts, name, end)
+    match op {
+        AttributeOp::LoadAttr => frame_values::load_attr(frames, arena, consts, name, end),
+        AttributeOp::LoadMethod => frame_values::load_method(frames, arena, consts, name, end),
+        AttributeOp::StoreAttr => frame_values::store_attr(frames, arena, consts, name, end),
+        AttributeOp::ImportFrom => frame_values::import_from(frames, arena, consts, name, end),
+    }
 }

@@ -1,10 +1,8 @@
 //! Operations on iterators, as they were fetched for calls of a program.
 
-ghost use Rattle.vm_states.specs.vm_fetching.declared.instruction.Instruction.TheVariants as fetched;
+ghost use Rattle.vm_states.specs.vm_fetching.Instructions as fetched;
 ghost use Rattle.vm_states.specs.prim_names.prim_faults.Sights.{under};
-ghost use Rattle.vm_states.specs.vm_fetching.declared.operations.JumpOp.TheVariants as jump_ops;
-ghost use Rattle.vm_states.specs.vm_fetching.declared.operations.PlainOp.TheVariants as plain_ops;
-ghost use Rattle.state_values.specs.Moving.{fetched_plain};
+ghost use Rattle.state_values.specs.Moving.{fetched_iterate};
 ghost use Rattle.vm_states.specs.Acting.{RunsOver};
 ghost use Rattle.state_values.specs.Keeping.{ActsKeeping};
 
@@ -15,14 +13,14 @@ use vm_frames::Frames;
 use vm_states::tops_law;
 
 /// GET_ITER_STACK.
-pub(crate) fn get_iter_stack<C: Constants>(
+pub fn get_iter_stack<C: Constants>(
     frames: &mut Frames,
     arena: &Arena,
     consts: &C,
     end: u32,
 ) -> Result<(), Stop>
-    requires runs { under C.Constants consts.now RunsOver arena.now frames.old (fetched_plain plain_ops.GetIterStack end) }
-    ensures acts { under C.Constants consts.now ActsKeeping (fetched_plain plain_ops.GetIterStack end) 0 arena.now arena.now frames.old frames.new result }
+    requires runs { under C.Constants consts.now RunsOver arena.now frames.old (fetched_iterate end) }
+    ensures acts { under C.Constants consts.now ActsKeeping (fetched_iterate end) 0 arena.now arena.now frames.old frames.new result }
 {
     acting_law();
     tops_law();
@@ -30,16 +28,16 @@ pub(crate) fn get_iter_stack<C: Constants>(
 }
 
 /// FOR_ITER.
-pub(crate) fn for_iter<C: Constants>(
+pub fn for_iter<C: Constants>(
     frames: &mut Frames,
     arena: &mut Arena,
     consts: &C,
     target: u32,
     end: u32,
 ) -> Result<(), Stop>
-    requires runs { under C.Constants consts.now RunsOver arena.old frames.old (record { instruction = fetched.Jump jump_ops.ForIter target; end = end }) }
+    requires runs { under C.Constants consts.now RunsOver arena.old frames.old (record { instruction = fetched.for_iter target; end = end }) }
     ensures acts { under C.Constants consts.now ActsKeeping (record {
-      instruction = fetched.Jump jump_ops.ForIter target;
+      instruction = fetched.for_iter target;
       end = end;
     }) 0 arena.old arena.new frames.old frames.new result }
 {

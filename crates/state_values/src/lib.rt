@@ -6,6 +6,7 @@ mod attributes;
 mod branching;
 mod constants;
 mod displays;
+mod handlers;
 mod iterators;
 mod jumping;
 mod law;
@@ -13,25 +14,31 @@ mod loading;
 mod locals;
 mod moving;
 mod names;
-mod operating;
 mod operators;
 mod slot_moves;
 mod storing;
 mod subscripts;
 
-pub use branching::jump_by;
+pub use attributes::attribute_on;
+pub use branching::{jump_by, test_jump};
 pub use constants::constants_law;
+pub use displays::build_on;
+pub use handlers::handle_on;
+pub use iterators::{for_iter, get_iter_stack};
 pub use jumping::{begin_except, begin_finally, end_except, jump_on, jump_out};
 pub use law::acting_law;
 pub use loading::{load_constant, load_small, load_str};
+pub use locals::local_on;
 pub use moving::{
     jump, load_int, load_object, load_text, move_on, store_fast, store_fast_n, unwind_jump,
 };
-pub use operating::{attribute_on, jump_to, name_on, number_on, plain_on};
+pub use names::name_on;
 pub use operators::{binary_op, unary_op, visits_binary_op};
 pub use slot_moves::move_slots;
 pub use storing::store_local;
+pub use subscripts::item_on;
 pub use vm_states::{
-    End, Fetched, Instruction, JumpOp, ModuleName, NameOp, NumberOp, PlainOp, Row, Rows, assigned,
-    fetch, tops_law,
+    Action, AttributeOp, BuildOp, CallOp, End, Fetched, HandlerOp, Instruction, ItemOp, LeaveOp,
+    LocalOp, MakeOp, ModuleName, MoveOp, NameOp, Row, Rows, Step, TestOp, assigned, fetch,
+    tops_law,
 };

@@ -1,15 +1,13 @@
 //! Instructions that move frames alone, over an arena that stays.
 
-ghost use Rattle.vm_states.specs.vm_fetching.declared.instruction.Instruction.TheVariants as fetched;
+ghost use Rattle.vm_states.specs.vm_fetching.Instructions as fetched;
 ghost use Rattle.vm_states.specs.prim_names.prim_faults.Sights.{under};
-ghost use Rattle.vm_states.specs.vm_fetching.declared.operations.JumpOp.TheVariants as jump_ops;
-ghost use Rattle.vm_states.specs.vm_fetching.declared.operations.NameOp.TheVariants as name_ops;
-ghost use Rattle.vm_states.specs.vm_fetching.declared.operations.NumberOp.TheVariants as number_ops;
-ghost use Rattle.state_values.specs.Moving.{MovesSlots, fetched_plain};
+ghost use Rattle.vm_states.specs.vm_fetching.declared.operations.LocalOp.TheVariants as local_ops;
+ghost use Rattle.state_values.specs.Moving.{fetched_move};
 ghost use Rattle.vm_states.specs.Acting.{RunsOver};
 ghost use Rattle.state_values.specs.Keeping.{ActsKeeping};
 
-use crate::jumping::{begin_except, begin_finally, end_except, jump_on, jump_out};
+use crate::jumping::{jump_on, jump_out};
 use crate::law::acting_law;
 use crate::loading::{load_constant, load_small, load_str};
 use crate::slot_moves::move_slots;
@@ -17,19 +15,18 @@ use crate::storing::store_local;
 use arena_heap::{Arena, Constants, StrNo, Value};
 use prim_faults::Stop;
 use vm_frames::Frames;
-use vm_states::{NumberOp, PlainOp, tops_law};
+use vm_states::{LocalOp, MoveOp, tops_law};
 
-/// An operation that moves slots alone.
+/// An operation that moves slots.
 pub fn move_on<C: Constants>(
     frames: &mut Frames,
     _arena: &Arena,
     _consts: &C,
-    op: PlainOp,
+    op: MoveOp,
     end: u32,
 ) -> Result<(), Stop>
-    requires moves { MovesSlots op }
-    requires runs { under C.Constants _consts.now RunsOver _arena.now frames.old (fetched_plain op end) }
-    ensures acts { under C.Constants _consts.now ActsKeeping (fetched_plain op end) 0 _arena.now _arena.now frames.old frames.new result }
+    requires runs { under C.Constants _consts.now RunsOver _arena.now frames.old (fetched_move op end) }
+    ensures acts { under C.Constants _consts.now ActsKeeping (fetched_move op end) 0 _arena.now _arena.now frames.old frames.new result }
 {
     acting_law();
     move_slots(frames, op, end);
@@ -44,15 +41,15 @@ pub fn store_fast<C: Constants>(
     n: u32,
     end: u32,
 ) -> Result<(), Stop>
-    requires runs { under C.Constants _consts.now RunsOver _arena.now frames.old (record { instruction = fetched.Number number_ops.StoreFast n; end = end }) }
+    requires runs { under C.Constants _consts.now RunsOver _arena.now frames.old (record { instruction = fetched.local local_ops.StoreFast n; end = end }) }
     ensures acts { under C.Constants _consts.now ActsKeeping (record {
-      instruction = fetched.Number number_ops.StoreFast n;
+      instruction = fetched.local local_ops.StoreFast n;
       end = end;
     }) 0 _arena.now _arena.now frames.old frames.new result }
 {
     acting_law();
     tops_law();
-    store_local(frames, NumberOp::StoreFast, n, end);
+    store_local(frames, LocalOp::StoreFast, n, end);
     Ok(())
 }
 
@@ -64,15 +61,15 @@ pub fn store_fast_n<C: Constants>(
     n: u32,
     end: u32,
 ) -> Result<(), Stop>
-    requires runs { under C.Constants _consts.now RunsOver _arena.now frames.old (record { instruction = fetched.Number number_ops.StoreFastN n; end = end }) }
+    requires runs { under C.Constants _consts.now RunsOver _arena.now frames.old (record { instruction = fetched.local local_ops.StoreFastN n; end = end }) }
     ensures acts { under C.Constants _consts.now ActsKeeping (record {
-      instruction = fetched.Number number_ops.StoreFastN n;
+      instruction = fetched.local local_ops.StoreFastN n;
       end = end;
     }) 0 _arena.now _arena.now frames.old frames.new result }
 {
     acting_law();
     tops_law();
-    store_local(frames, NumberOp::StoreFastN, n, end);
+    store_local(frames, LocalOp::StoreFastN, n, end);
     Ok(())
 }
 
@@ -84,9 +81,9 @@ pub fn load_int<C: Constants>(
     n: i32,
     end: u32,
 ) -> Result<(), Stop>
-    requires runs { under C.Constants _consts.now RunsOver _arena.now frames.old (record { instruction = fetched.Int n; end = end }) }
+    requires runs { under C.Constants _consts.now RunsOver _arena.now frames.old (record { instruction = fetched.int n; end = end }) }
     ensures acts { under C.Constants _consts.now ActsKeeping
-        (record { instruction = fetched.Int n; end = end }) 0 _arena.now _arena.now frames.old frames.new result }
+        (record { instruction = fetched.int n; end = end }) 0 _arena.now _arena.now frames.old frames.new result }
 {
     acting_law();
     load_small(frames, n, end);
@@ -102,11 +99,11 @@ pub fn load_text<C: Constants>(
     end: u32,
 ) -> Result<(), Stop>
     requires runs { under C.Constants _consts.now RunsOver _arena.now frames.old (record {
-      instruction = fetched.Name name_ops.LoadConstString text;
+      instruction = fetched.text text;
       end = end;
     }) }
     ensures acts { under C.Constants _consts.now ActsKeeping (record {
-      instruction = fetched.Name name_ops.LoadConstString text;
+      instruction = fetched.text text;
       end = end;
     }) 0 _arena.now _arena.now frames.old frames.new result }
 {
@@ -123,9 +120,9 @@ pub fn load_object<C: Constants>(
     v: Value,
     end: u32,
 ) -> Result<(), Stop>
-    requires runs { under C.Constants _consts.now RunsOver _arena.now frames.old (record { instruction = fetched.Object v; end = end }) }
+    requires runs { under C.Constants _consts.now RunsOver _arena.now frames.old (record { instruction = fetched.object v; end = end }) }
     ensures acts { under C.Constants _consts.now ActsKeeping
-        (record { instruction = fetched.Object v; end = end }) 0 _arena.now _arena.now frames.old frames.new result }
+        (record { instruction = fetched.object v; end = end }) 0 _arena.now _arena.now frames.old frames.new result }
 {
     acting_law();
     load_constant(frames, v, end);
@@ -140,80 +137,14 @@ pub fn jump<C: Constants>(
     target: u32,
     end: u32,
 ) -> Result<(), Stop>
-    requires runs { under C.Constants _consts.now RunsOver _arena.now frames.old (record { instruction = fetched.Jump jump_ops.Jump target; end = end }) }
+    requires runs { under C.Constants _consts.now RunsOver _arena.now frames.old (record { instruction = fetched.jump target; end = end }) }
     ensures acts { under C.Constants _consts.now ActsKeeping (record {
-      instruction = fetched.Jump jump_ops.Jump target;
+      instruction = fetched.jump target;
       end = end;
     }) 0 _arena.now _arena.now frames.old frames.new result }
 {
     acting_law();
     jump_on(frames, target, end);
-    Ok(())
-}
-
-/// SETUP_EXCEPT.
-pub(crate) fn setup_except<C: Constants>(
-    frames: &mut Frames,
-    _arena: &Arena,
-    _consts: &C,
-    handler: u32,
-    end: u32,
-) -> Result<(), Stop>
-    requires runs { under C.Constants _consts.now RunsOver _arena.now frames.old (record {
-      instruction = fetched.Jump jump_ops.SetupExcept handler;
-      end = end;
-    }) }
-    ensures acts { under C.Constants _consts.now ActsKeeping (record {
-      instruction = fetched.Jump jump_ops.SetupExcept handler;
-      end = end;
-    }) 0 _arena.now _arena.now frames.old frames.new result }
-{
-    acting_law();
-    begin_except(frames, handler, end);
-    Ok(())
-}
-
-/// SETUP_FINALLY.
-pub(crate) fn setup_finally<C: Constants>(
-    frames: &mut Frames,
-    _arena: &Arena,
-    _consts: &C,
-    handler: u32,
-    end: u32,
-) -> Result<(), Stop>
-    requires runs { under C.Constants _consts.now RunsOver _arena.now frames.old (record {
-      instruction = fetched.Jump jump_ops.SetupFinally handler;
-      end = end;
-    }) }
-    ensures acts { under C.Constants _consts.now ActsKeeping (record {
-      instruction = fetched.Jump jump_ops.SetupFinally handler;
-      end = end;
-    }) 0 _arena.now _arena.now frames.old frames.new result }
-{
-    acting_law();
-    begin_finally(frames, handler, end);
-    Ok(())
-}
-
-/// POP_EXCEPT_JUMP.
-pub(crate) fn pop_except_jump<C: Constants>(
-    frames: &mut Frames,
-    _arena: &Arena,
-    _consts: &C,
-    target: u32,
-    end: u32,
-) -> Result<(), Stop>
-    requires runs { under C.Constants _consts.now RunsOver _arena.now frames.old (record {
-      instruction = fetched.Jump jump_ops.PopExceptJump target;
-      end = end;
-    }) }
-    ensures acts { under C.Constants _consts.now ActsKeeping (record {
-      instruction = fetched.Jump jump_ops.PopExceptJump target;
-      end = end;
-    }) 0 _arena.now _arena.now frames.old frames.new result }
-{
-    acting_law();
-    end_except(frames, target, end);
     Ok(())
 }
 
@@ -226,9 +157,9 @@ pub fn unwind_jump<C: Constants>(
     byte: u8,
     end: u32,
 ) -> Result<(), Stop>
-    requires runs { under C.Constants _consts.now RunsOver _arena.now frames.old (record { instruction = fetched.Unwind target byte; end = end }) }
+    requires runs { under C.Constants _consts.now RunsOver _arena.now frames.old (record { instruction = fetched.unwind target byte; end = end }) }
     ensures acts { under C.Constants _consts.now ActsKeeping (record {
-      instruction = fetched.Unwind target byte;
+      instruction = fetched.unwind target byte;
       end = end;
     }) 0 _arena.now _arena.now frames.old frames.new result }
 {

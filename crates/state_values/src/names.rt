@@ -1,8 +1,7 @@
-//! Operations on the names of a module, as they were fetched for calls of a program.
+//! Operations on the names of a module.
 
-ghost use Rattle.vm_states.specs.vm_fetching.declared.instruction.Instruction.TheVariants as fetched;
 ghost use Rattle.vm_states.specs.prim_names.prim_faults.Sights.{under};
-ghost use Rattle.vm_states.specs.vm_fetching.declared.operations.NameOp.TheVariants as name_ops;
+ghost use Rattle.vm_states.specs.vm_fetching.Instructions as fetched;
 ghost use Rattle.vm_states.specs.Acting.{RunsOver};
 ghost use Rattle.state_values.specs.Keeping.{ActsKeeping};
 
@@ -10,114 +9,28 @@ use crate::law::acting_law;
 use arena_heap::{Arena, Constants, StrNo};
 use prim_faults::Stop;
 use vm_frames::Frames;
-use vm_states::tops_law;
+use vm_states::{NameOp, tops_law};
 
-/// LOAD_NAME.
-pub(crate) fn load_name<C: Constants>(
-    frames: &mut Frames,
-    arena: &Arena,
-    consts: &C,
-    name: StrNo,
-    end: u32,
-) -> Result<(), Stop>
-    requires runs { under C.Constants consts.now RunsOver arena.now frames.old (record { instruction = fetched.Name name_ops.LoadName name; end = end }) }
-    ensures acts { under C.Constants consts.now ActsKeeping (record {
-      instruction = fetched.Name name_ops.LoadName name;
-      end = end;
-    }) 0 arena.now arena.now frames.old frames.new result }
-{
-    acting_law();
-    frame_values::load_name(frames, arena, consts, name, end)
-}
-
-/// LOAD_GLOBAL.
-pub(crate) fn load_global<C: Constants>(
-    frames: &mut Frames,
-    arena: &Arena,
-    consts: &C,
-    name: StrNo,
-    end: u32,
-) -> Result<(), Stop>
-    requires runs { under C.Constants consts.now RunsOver arena.now frames.old (record { instruction = fetched.Name name_ops.LoadGlobal name; end = end }) }
-    ensures acts { under C.Constants consts.now ActsKeeping (record {
-      instruction = fetched.Name name_ops.LoadGlobal name;
-      end = end;
-    }) 0 arena.now arena.now frames.old frames.new result }
-{
-    acting_law();
-    frame_values::load_name(frames, arena, consts, name, end)
-}
-
-/// STORE_NAME.
-pub(crate) fn store_name<C: Constants>(
+/// A name of the running call's module. It makes no visits.
+pub fn name_on<C: Constants>(
     frames: &mut Frames,
     arena: &mut Arena,
     consts: &C,
+    op: NameOp,
     name: StrNo,
     end: u32,
 ) -> Result<(), Stop>
-    requires runs { under C.Constants consts.now RunsOver arena.old frames.old (record { instruction = fetched.Name name_ops.StoreName name; end = end }) }
-    ensures acts { under C.Constants consts.now ActsKeeping (record {
-      instruction = fetched.Name name_ops.StoreName name;
-      end = end;
-    }) 0 arena.old arena.new frames.old frames.new result }
+    requires runs { under C.Constants consts.now RunsOver arena.old frames.old (record { instruction = fetched.name op name; end = end }) }
+    ensures acts { under C.Constants consts.now ActsKeeping (record { instruction = fetched.name op name; end = end }) 0 arena.old arena.new frames.old frames.new result }
 {
     acting_law();
     tops_law();
-    frame_values::store_name(frames, arena, consts, name, end)
-}
-
-/// STORE_GLOBAL.
-pub(crate) fn store_global<C: Constants>(
-    frames: &mut Frames,
-    arena: &mut Arena,
-    consts: &C,
-    name: StrNo,
-    end: u32,
-) -> Result<(), Stop>
-    requires runs { under C.Constants consts.now RunsOver arena.old frames.old (record { instruction = fetched.Name name_ops.StoreGlobal name; end = end }) }
-    ensures acts { under C.Constants consts.now ActsKeeping (record {
-      instruction = fetched.Name name_ops.StoreGlobal name;
-      end = end;
-    }) 0 arena.old arena.new frames.old frames.new result }
-{
-    acting_law();
-    tops_law();
-    frame_values::store_name(frames, arena, consts, name, end)
-}
-
-/// DELETE_NAME.
-pub(crate) fn delete_name<C: Constants>(
-    frames: &mut Frames,
-    arena: &mut Arena,
-    consts: &C,
-    name: StrNo,
-    end: u32,
-) -> Result<(), Stop>
-    requires runs { under C.Constants consts.now RunsOver arena.old frames.old (record { instruction = fetched.Name name_ops.DeleteName name; end = end }) }
-    ensures acts { under C.Constants consts.now ActsKeeping (record {
-      instruction = fetched.Name name_ops.DeleteName name;
-      end = end;
-    }) 0 arena.old arena.new frames.old frames.new result }
-{
-    acting_law();
-    frame_values::delete_name(frames, arena, consts, name, end)
-}
-
-/// DELETE_GLOBAL.
-pub(crate) fn delete_global<C: Constants>(
-    frames: &mut Frames,
-    arena: &mut Arena,
-    consts: &C,
-    name: StrNo,
-    end: u32,
-) -> Result<(), Stop>
-    requires runs { under C.Constants consts.now RunsOver arena.old frames.old (record { instruction = fetched.Name name_ops.DeleteGlobal name; end = end }) }
-    ensures acts { under C.Constants consts.now ActsKeeping (record {
-      instruction = fetched.Name name_ops.DeleteGlobal name;
-      end = end;
-    }) 0 arena.old arena.new frames.old frames.new result }
-{
-    acting_law();
-    frame_values::delete_name(frames, arena, consts, name, end)
+    match op {
+        NameOp::LoadName => frame_values::load_name(frames, arena, consts, name, end),
+        NameOp::LoadGlobal => frame_values::load_name(frames, arena, consts, name, end),
+        NameOp::StoreName => frame_values::store_name(frames, arena, consts, name, end),
+        NameOp::StoreGlobal => frame_values::store_name(frames, arena, consts, name, end),
+        NameOp::DeleteName => frame_values::delete_name(frames, arena, consts, name, end),
+        NameOp::DeleteGlobal => frame_values::delete_name(frames, arena, consts, name, end),
+    }
 }

@@ -2,7 +2,7 @@
 
 ghost use Rattle.std.specs.Prelude.{◌≡◌, min};
 ghost use Rattle.vm_states.specs.prim_names.prim_faults.Sights.{under};
-ghost use Rattle.vm_states.specs.vm_fetching.declared.instruction.Instruction.TheVariants as fetched;
+ghost use Rattle.vm_states.specs.vm_fetching.Instructions as fetched;
 ghost use Rattle.vm_states.specs.Acting.{RunsOver};
 ghost use Rattle.state_values.specs.Keeping.{ActsKeeping};
 ghost use Rattle.state_values.specs.Operators.{visits_binary};
@@ -21,9 +21,9 @@ pub fn unary_op<C: Constants>(
     number: u8,
     end: u32,
 ) -> Result<(), Stop>
-    requires runs { under C.Constants consts.now RunsOver arena.now frames.old (record { instruction = fetched.Unary number; end = end }) }
+    requires runs { under C.Constants consts.now RunsOver arena.now frames.old (record { instruction = fetched.unary number; end = end }) }
     ensures acts { under C.Constants consts.now ActsKeeping
-        (record { instruction = fetched.Unary number; end = end }) 0 arena.now arena.now frames.old frames.new result }
+        (record { instruction = fetched.unary number; end = end }) 0 arena.now arena.now frames.old frames.new result }
 {
     acting_law();
     tops_law();
@@ -38,8 +38,8 @@ pub fn binary_op<C: Constants>(
     number: u8,
     end: u32,
 ) -> Result<(), Stop>
-    requires runs { under C.Constants consts.now RunsOver arena.old frames.old (record { instruction = fetched.Binary number; end = end }) }
-    ensures acts { under C.Constants consts.now ActsKeeping (record { instruction = fetched.Binary number; end = end })
+    requires runs { under C.Constants consts.now RunsOver arena.old frames.old (record { instruction = fetched.binary number; end = end }) }
+    ensures acts { under C.Constants consts.now ActsKeeping (record { instruction = fetched.binary number; end = end })
         (under C.Constants consts.now visits_binary arena.old frames.old.calls number) arena.old arena.new frames.old frames.new result }
 {
     acting_law();
@@ -56,7 +56,7 @@ pub fn visits_binary_op<C: Constants>(
     end: u32,
     most: u64,
 ) -> u64
-    requires runs { under C.Constants consts.now RunsOver arena.now frames.now (record { instruction = fetched.Binary number; end = end }) }
+    requires runs { under C.Constants consts.now RunsOver arena.now frames.now (record { instruction = fetched.binary number; end = end }) }
     ensures visits { result ≡ min (under C.Constants consts.now visits_binary arena.now frames.now.calls number) most }
 {
     tops_law();

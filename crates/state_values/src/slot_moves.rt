@@ -1,4 +1,4 @@
-//! Instructions without an operand that move slots alone.
+//! Instructions that move slots.
 
 ghost use Rattle.std.specs.Prelude.{◌≡◌};
 ghost use Rattle.vm_states.specs.mpy_base.Val.{PlainWorld};
@@ -7,49 +7,40 @@ ghost use Rattle.vm_states.specs.bc_machine.Library.{Plain};
 ghost use Rattle.vm_states.specs.vm_frames.Calls.{on_running};
 ghost use Rattle.vm_states.specs.frame_moves.Shown.{Tables, Steps, IsNext};
 ghost use Rattle.vm_states.specs.frame_moves.Stacks.{gone};
-ghost use Rattle.vm_states.specs.vm_fetching.Operations.{plain_op};
-ghost use Rattle.state_values.specs.Moving.{MovesSlots, moved_slots, fetched_plain, Runs, GoesBehind};
+ghost use Rattle.vm_states.specs.vm_fetching.Operations.{move_op};
+ghost use Rattle.state_values.specs.Moving.{moved_slots, fetched_move, Runs, GoesBehind};
 ghost use Rattle.state_values.specs.Needs.{Needs};
 
 use frame_moves::{
     dup_top, dup_top_two, load_false, load_none, load_null, load_true, pop_top, rot_three, rot_two,
 };
 use vm_frames::Frames;
-use vm_states::{PlainOp, keeps_law, tops_law};
+use vm_states::{MoveOp, keeps_law, tops_law};
 
 /// The operation, by what it needs.
-fn act(frames: &mut Frames, op: PlainOp, end: u32)
+fn act(frames: &mut Frames, op: MoveOp, end: u32)
     requires { Needs op frames.old }
     ensures steps { (tables : Tables) (w : PlainWorld) → IsNext tables end frames.old.calls
-        → Steps tables w (Plain (instrs.Plain (plain_op op))) frames.old.calls frames.new.calls }
+        → Steps tables w (Plain (instrs.Plain (move_op op))) frames.old.calls frames.new.calls }
     ensures moved { frames.new ≡ on_running (λ c. gone end (moved_slots op c.slots) c) frames.old }
 {
     match op {
-        PlainOp::LoadConstFalse => load_false(frames, end),
-        PlainOp::LoadConstNone => load_none(frames, end),
-        PlainOp::LoadConstTrue => load_true(frames, end),
-        PlainOp::LoadNull => load_null(frames, end),
-        PlainOp::DupTop => dup_top(frames, end),
-        PlainOp::DupTopTwo => dup_top_two(frames, end),
-        PlainOp::PopTop => pop_top(frames, end),
-        PlainOp::RotTwo => rot_two(frames, end),
-        PlainOp::RotThree => rot_three(frames, end),
-        PlainOp::LoadSubscr
-        | PlainOp::StoreSubscr
-        | PlainOp::EndFinally
-        | PlainOp::GetIterStack
-        | PlainOp::StoreMap
-        | PlainOp::ReturnValue
-        | PlainOp::RaiseLast
-        | PlainOp::RaiseObj => unreachable!(),
+        MoveOp::LoadConstFalse => load_false(frames, end),
+        MoveOp::LoadConstNone => load_none(frames, end),
+        MoveOp::LoadConstTrue => load_true(frames, end),
+        MoveOp::LoadNull => load_null(frames, end),
+        MoveOp::DupTop => dup_top(frames, end),
+        MoveOp::DupTopTwo => dup_top_two(frames, end),
+        MoveOp::PopTop => pop_top(frames, end),
+        MoveOp::RotTwo => rot_two(frames, end),
+        MoveOp::RotThree => rot_three(frames, end),
     }
 }
 
-/// An operation that moves slots alone, where it was fetched for the running call. It takes no memory.
-pub fn move_slots(frames: &mut Frames, op: PlainOp, end: u32)
-    requires moves { MovesSlots op }
-    requires runs { Runs frames.old (fetched_plain op end) }
-    ensures goes { GoesBehind (fetched_plain op end) frames.old frames.new }
+/// An operation that moves slots, where it was fetched for the running call. It takes no memory.
+pub fn move_slots(frames: &mut Frames, op: MoveOp, end: u32)
+    requires runs { Runs frames.old (fetched_move op end) }
+    ensures goes { GoesBehind (fetched_move op end) frames.old frames.new }
     ensures moved { frames.new ≡ on_running (λ c. gone end (moved_slots op c.slots) c) frames.old }
 {
     keeps_law();

@@ -5,19 +5,19 @@ ghost use Rattle.vm_states.specs.prim_names.arena_heap.declared.value.Value.{Val
 ghost use Rattle.vm_states.specs.vm_frames.declared.slot.Slot.TheVariants as slots;
 ghost use Rattle.vm_states.specs.vm_frames.Calls.{on_running};
 ghost use Rattle.vm_states.specs.frame_moves.Shown.{IsTop};
-ghost use Rattle.vm_states.specs.vm_fetching.declared.instruction.Instruction.TheVariants as fetched;
+ghost use Rattle.vm_states.specs.vm_fetching.Instructions as fetched;
 ghost use Rattle.state_values.specs.Moving.{Runs, GoesBehind};
 ghost use Rattle.state_values.specs.Storing.{StoresLocal};
 
 use frame_moves::store_fast;
 use vm_frames::Frames;
-use vm_states::{NumberOp, keeps_law, tops_law};
+use vm_states::{LocalOp, keeps_law, tops_law};
 
 /// STORE_FAST, in one byte or in more, where it was fetched for the running call.
-pub fn store_local(frames: &mut Frames, op: NumberOp, n: u32, end: u32)
+pub fn store_local(frames: &mut Frames, op: LocalOp, n: u32, end: u32)
     requires stores { StoresLocal op }
-    requires runs { Runs frames.old (record { instruction = fetched.Number op n; end = end }) }
-    ensures goes { GoesBehind (record { instruction = fetched.Number op n; end = end }) frames.old frames.new }
+    requires runs { Runs frames.old (record { instruction = fetched.local op n; end = end }) }
+    ensures goes { GoesBehind (record { instruction = fetched.local op n; end = end }) frames.old frames.new }
     ensures moved { (v : Item) → IsTop (slots.Value v) frames.old.calls → frames.new ≡ on_running (λ c. record c {
       at = end;
       slots = drop 1 c.slots;

@@ -4,8 +4,8 @@ ghost use Rattle.std.specs.Prelude.{◌≡◌, true, false};
 ghost use Rattle.vm_states.specs.prim_names.arena_heap.declared.value.Value.{Value as Item};
 ghost use Rattle.vm_states.specs.prim_names.prim_faults.Sights.{under};
 ghost use Rattle.vm_states.specs.frame_values.Slots.{HasValue, HasNull};
-ghost use Rattle.vm_states.specs.vm_fetching.declared.operations.PlainOp.TheVariants as plain_ops;
-ghost use Rattle.state_values.specs.Moving.{fetched_plain};
+ghost use Rattle.vm_states.specs.vm_fetching.declared.operations.ItemOp.TheVariants as item_ops;
+ghost use Rattle.state_values.specs.Moving.{fetched_item};
 ghost use Rattle.vm_states.specs.Acting.{RunsOver};
 ghost use Rattle.state_values.specs.Keeping.{ActsKeeping};
 ghost use Rattle.state_values.specs.Operands.{HasOperand, is_null as is_null_slot};
@@ -14,22 +14,7 @@ use crate::law::acting_law;
 use arena_heap::{Arena, Constants};
 use prim_faults::Stop;
 use vm_frames::{Frames, Slot};
-use vm_states::tops_law;
-
-/// LOAD_SUBSCR.
-pub(crate) fn load_subscr<C: Constants>(
-    frames: &mut Frames,
-    arena: &mut Arena,
-    consts: &C,
-    end: u32,
-) -> Result<(), Stop>
-    requires runs { under C.Constants consts.now RunsOver arena.old frames.old (fetched_plain plain_ops.LoadSubscr end) }
-    ensures acts { under C.Constants consts.now ActsKeeping (fetched_plain plain_ops.LoadSubscr end) 0 arena.old arena.new frames.old frames.new result }
-{
-    acting_law();
-    tops_law();
-    frame_values::load_subscr(frames, arena, consts, end)
-}
+use vm_states::{ItemOp, tops_law};
 
 /// Is the slot empty?
 fn is_null(slot: Slot) -> bool
@@ -62,9 +47,9 @@ fn set_subscr<C: Constants>(
     consts: &C,
     end: u32,
 ) -> Result<(), Stop>
-    requires runs { under C.Constants consts.now RunsOver arena.old frames.old (fetched_plain plain_ops.StoreSubscr end) }
+    requires runs { under C.Constants consts.now RunsOver arena.old frames.old (fetched_item item_ops.StoreSubscr end) }
     requires value { (v : Item) × HasValue 2 v frames.old.calls }
-    ensures acts { under C.Constants consts.now ActsKeeping (fetched_plain plain_ops.StoreSubscr end) 0 arena.old arena.new frames.old frames.new result }
+    ensures acts { under C.Constants consts.now ActsKeeping (fetched_item item_ops.StoreSubscr end) 0 arena.old arena.new frames.old frames.new result }
 {
     acting_law();
     tops_law();
@@ -78,9 +63,9 @@ fn delete_subscr<C: Constants>(
     consts: &C,
     end: u32,
 ) -> Result<(), Stop>
-    requires runs { under C.Constants consts.now RunsOver arena.old frames.old (fetched_plain plain_ops.StoreSubscr end) }
+    requires runs { under C.Constants consts.now RunsOver arena.old frames.old (fetched_item item_ops.StoreSubscr end) }
     requires no_value { HasNull 2 frames.old.calls }
-    ensures acts { under C.Constants consts.now ActsKeeping (fetched_plain plain_ops.StoreSubscr end) 0 arena.old arena.new frames.old frames.new result }
+    ensures acts { under C.Constants consts.now ActsKeeping (fetched_item item_ops.StoreSubscr end) 0 arena.old arena.new frames.old frames.new result }
 {
     acting_law();
     tops_law();
@@ -88,14 +73,14 @@ fn delete_subscr<C: Constants>(
 }
 
 /// STORE_SUBSCR: an item is set, or deleted where no value lies below the object.
-pub(crate) fn store_subscr<C: Constants>(
+fn store_subscr<C: Constants>(
     frames: &mut Frames,
     arena: &mut Arena,
     consts: &C,
     end: u32,
 ) -> Result<(), Stop>
-    requires runs { under C.Constants consts.now RunsOver arena.old frames.old (fetched_plain plain_ops.StoreSubscr end) }
-    ensures acts { under C.Constants consts.now ActsKeeping (fetched_plain plain_ops.StoreSubscr end) 0 arena.old arena.new frames.old frames.new result }
+    requires runs { under C.Constants consts.now RunsOver arena.old frames.old (fetched_item item_ops.StoreSubscr end) }
+    ensures acts { under C.Constants consts.now ActsKeeping (fetched_item item_ops.StoreSubscr end) 0 arena.old arena.new frames.old frames.new result }
 {
     tops_law();
     if lacks_third(frames) {
@@ -105,17 +90,22 @@ pub(crate) fn store_subscr<C: Constants>(
     }
 }
 
-/// STORE_MAP. The dict that is made stays.
-pub(crate) fn store_map<C: Constants>(
+/// An item that is loaded, set or deleted, or put into a dict. It makes no visits.
+pub fn item_on<C: Constants>(
     frames: &mut Frames,
     arena: &mut Arena,
     consts: &C,
+    op: ItemOp,
     end: u32,
 ) -> Result<(), Stop>
-    requires runs { under C.Constants consts.now RunsOver arena.old frames.old (fetched_plain plain_ops.StoreMap end) }
-    ensures acts { under C.Constants consts.now ActsKeeping (fetched_plain plain_ops.StoreMap end) 0 arena.old arena.new frames.old frames.new result }
+    requires runs { under C.Constants consts.now RunsOver arena.old frames.old (fetched_item op end) }
+    ensures acts { under C.Constants consts.now ActsKeeping (fetched_item op end) 0 arena.old arena.new frames.old frames.new result }
 {
     acting_law();
     tops_law();
-    frame_values::store_map(frames, arena, consts, end)
+    match op {
+        ItemOp::LoadSubscr => frame_values::load_subscr(frames, arena, consts, end),
+        ItemOp::StoreSubscr => store_subscr(frames, arena, consts, end),
+        ItemOp::StoreMap => frame_values::store_map(frames, arena, consts, end),
+    }
 }

@@ -13,10 +13,10 @@ use Rattle.bc_scheme.specs.Correct.{HasEnded}
 use Rattle.meant_files.specs.Sources.{IsProgramOfSources}
 use Rattle.command_files.specs.Outside.{Outside}
 use Rattle.mpy_endings.specs.Ending.{IsRunStatus}
-use Rattle.run_commands.specs.Base.{base_of}
-use Rattle.run_commands.specs.declared.ready.Ready.{Ready}
-use Rattle.run_commands.specs.Ready.{GoLibrary, RunLibrary}
-use Rattle.run_commands.specs.Run.{EndsRun}
+use Rattle.meant_commands.specs.run_commands.Base.{base_of}
+use Rattle.meant_commands.specs.run_commands.declared.ready.Ready.{Ready}
+use Rattle.meant_commands.specs.run_commands.Ready.{GoLibrary, RunLibrary}
+use Rattle.meant_commands.specs.run_commands.Run.{EndsRun}
 use Rattle.meant_commands.specs.GoMeant.{GoMeans, MeansSources}
 use Rattle.meant_commands.specs.Meant.{DoesAsMeant, HoldsProgram, RunMeans, end_status}
 use Rattle.tool_laws.specs.Runs.{AnswersOnce, OnFiles, SettledRun}

@@ -17,10 +17,10 @@ use Rattle.library_files.specs.pkg_paths.Paths.{package_file, plain_file}
 use Rattle.library_files.specs.Comes.{ComesTo, ending}
 use Rattle.library_files.specs.Loads.{Loaded, LoadsBy, limit_of, main_name}
 use Rattle.meant_files.specs.Built.{IsBuilt, IsBuiltEntry, IsBuiltProgram}
-use Rattle.run_commands.specs.Base.{base_of}
-use Rattle.run_commands.specs.declared.ready.Ready.{Ready}
-use Rattle.run_commands.specs.Ready.{RunLibrary, begins_image, not_read, of_file, of_image}
-use Rattle.run_commands.specs.Run.{LoadsOf}
+use Rattle.meant_commands.specs.run_commands.Base.{base_of}
+use Rattle.meant_commands.specs.run_commands.declared.ready.Ready.{Ready}
+use Rattle.meant_commands.specs.run_commands.Ready.{RunLibrary, begins_image, not_read, of_file, of_image}
+use Rattle.meant_commands.specs.run_commands.Run.{LoadsOf}
 use Rattle.meant_commands.specs.Made.{HoldsMade}
 use Rattle.meant_commands.specs.Meant.{HoldsBuilt}
 use Rattle.tool_laws.specs.AskedFor.{unit_imports, file_of, HoldsEntry, IsAskedFor}

@@ -8,15 +8,15 @@ use Rattle.bc_library.specs.Shelf.{Shelf}
 use Rattle.py_meaning.specs.Program.{Unit, Program}
 use Rattle.mpy_endings.specs.declared.ending.Ending.{Ending}
 use Rattle.mpy_endings.specs.declared.ending.Ending.TheVariants.{Done, Unaccepted, Unread, Unverified, Unmerged, Unopened, Unfrozen, Unboarded, Different, Stopped, ReadFault, WriteFault, Unwritten, NoMemory, Absent}
-use Rattle.mpy_endings.specs.declared.ending.Stop.TheVariants.{Past, LibraryFault, LibraryUnaccepted, Raised, Memory, Steps, Unsaved}
+use Rattle.mpy_endings.specs.declared.ending.Stop.TheVariants.{Past, LibraryFault, LibraryUnaccepted, Raised, Memory, Steps, Unsaved, Unresumed}
 use Rattle.image_runs.specs.declared.fault.MainFault.TheVariants as mains
 use Rattle.mpy_endings.specs.Ending.{IsRunStatus, status_of}
 use Rattle.command_files.specs.Outside.{Outside}
-use Rattle.run_commands.specs.library_runs.Runs.{Sight}
-use Rattle.run_commands.specs.declared.ready.Ready.{Ready}
-use Rattle.run_commands.specs.Ready.{RunLibrary}
-use Rattle.run_commands.specs.Run.{EndsRun, Runs}
-use Rattle.run_commands.specs.Save.{EndsRunTo, RunsSaving}
+use Rattle.meant_commands.specs.run_commands.library_runs.Runs.{Sight}
+use Rattle.meant_commands.specs.run_commands.declared.ready.Ready.{Ready}
+use Rattle.meant_commands.specs.run_commands.Ready.{RunLibrary}
+use Rattle.meant_commands.specs.run_commands.Run.{EndsRun, Runs}
+use Rattle.meant_commands.specs.run_commands.Save.{EndsRunTo, RunsSaving}
 use Rattle.meant_commands.specs.Meant.{HoldsProgram, RunMeans}
 use Rattle.tool_laws.specs.Programs.{AreProgramFiles, IsProgramOfFiles, MeansFiles, RunMeansFiles}
 
@@ -50,6 +50,7 @@ module _ (Comes : Result Ready Ending → Type 0) (room : Room) (steps : ℕ) (o
   ready_of (Stopped Memory) is h run = (h.0, h.1)
   ready_of (Stopped (Steps count)) is h run = (h.0.0, h.0.1)
   ready_of (Stopped Unsaved) is h run = absurd h
+  ready_of (Stopped (Unresumed fault)) is h run = absurd h
   ready_of WriteFault is h run = (h.0, h.1)
   ready_of (Stopped (Past limit)) is h run = not_run 11 refl is run
   ready_of (Stopped (LibraryFault path)) is h run = not_run 7 refl is run
@@ -75,6 +76,7 @@ module _ (Comes : Result Ready Ending → Type 0) (room : Room) (steps : ℕ) (o
   saving_ready snap files_old files_new (Stopped Memory) is h run = ready_of (Stopped Memory) is h.0 run
   saving_ready snap files_old files_new (Stopped (Steps count)) is h run = (h.0.ready, h.0.comes)
   saving_ready snap files_old files_new (Stopped Unsaved) is h run = (h.0.ready, h.0.comes)
+  saving_ready snap files_old files_new (Stopped (Unresumed fault)) is h run = absurd h.0
   saving_ready snap files_old files_new (Stopped (Past limit)) is h run = not_run 11 refl is run
   saving_ready snap files_old files_new (Stopped (LibraryFault path)) is h run = not_run 7 refl is run
   saving_ready snap files_old files_new (Stopped (LibraryUnaccepted source)) is h run = not_run 3 refl is run

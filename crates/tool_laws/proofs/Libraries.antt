@@ -22,17 +22,17 @@ use Rattle.command_files.specs.mpy_compile.Compiled.{CompilesTo, IsFault}
 use Rattle.source_files.specs.Sources.{stored, IsModuleOf, LoadsFromSources}
 use Rattle.mpy_endings.specs.declared.ending.Ending.{Ending}
 use Rattle.mpy_endings.specs.declared.ending.Ending.TheVariants.{Done, Unaccepted, Unread, Unverified, Unmerged, Unopened, Unfrozen, Unboarded, Different, Stopped, ReadFault, WriteFault, Unwritten, NoMemory, Absent}
-use Rattle.mpy_endings.specs.declared.ending.Stop.TheVariants.{Past, LibraryFault, LibraryUnaccepted, Raised, Memory, Steps, Unsaved}
+use Rattle.mpy_endings.specs.declared.ending.Stop.TheVariants.{Past, LibraryFault, LibraryUnaccepted, Raised, Memory, Steps, Unsaved, Unresumed}
 use Rattle.mpy_endings.specs.Ending.{IsSettled}
 use Rattle.command_files.specs.Folder.{IsNotRead}
 use Rattle.command_files.specs.Opened.{HoldsModule}
 use Rattle.command_files.specs.Source.{HoldsFaulty}
 use Rattle.command_files.proofs.Long.{not_read as refuses_unread}
-use Rattle.run_commands.specs.declared.ready.Ready.{Ready}
-use Rattle.run_commands.specs.Base.{base_of}
-use Rattle.run_commands.specs.Go.{RefusesSources, SourceLoadsOf}
-use Rattle.run_commands.specs.Ready.{FirstOf, GoLibrary, ImageStart, IsFirst, RunLibrary, begins_image, not_read, of_file, of_image}
-use Rattle.run_commands.specs.Run.{FileLibrary, HoldsMain, LoadsOf, RefusesLibrary}
+use Rattle.meant_commands.specs.run_commands.declared.ready.Ready.{Ready}
+use Rattle.meant_commands.specs.run_commands.Base.{base_of}
+use Rattle.meant_commands.specs.run_commands.Go.{RefusesSources, SourceLoadsOf}
+use Rattle.meant_commands.specs.run_commands.Ready.{FirstOf, GoLibrary, ImageStart, IsFirst, RunLibrary, begins_image, not_read, of_file, of_image}
+use Rattle.meant_commands.specs.run_commands.Run.{FileLibrary, HoldsMain, LoadsOf, RefusesLibrary}
 use Rattle.tool_laws.specs.Laws.{FileLaws, ImageLaws, LoadLaws, SourceLaws}
 use Rattle.tool_laws.specs.Runs.{AnswersOnce, IsSettledAnswer}
 use Rattle.tool_laws.proofs.ImageFiles.{never_faulty, never_long}
@@ -90,6 +90,7 @@ module _ (own : SourceLaws) (load : LoadLaws) (level : ℕ) (files : FileOf) (na
   refused_source (Stopped Memory) s p = absurd p
   refused_source (Stopped (Steps count)) s p = absurd p
   refused_source (Stopped Unsaved) s p = absurd p
+  refused_source (Stopped (Unresumed fault)) s p = absurd p
   refused_source ReadFault s p = absurd s
   refused_source WriteFault s p = absurd p
   refused_source Unwritten s p = absurd p
@@ -159,6 +160,7 @@ module _ (laws : FileLaws) (load : LoadLaws) (files : FileOf) (name : List ℕ) 
   refused_file (Stopped Memory) s p = absurd p
   refused_file (Stopped (Steps count)) s p = absurd p
   refused_file (Stopped Unsaved) s p = absurd p
+  refused_file (Stopped (Unresumed fault)) s p = absurd p
   refused_file ReadFault s p = absurd s
   refused_file WriteFault s p = absurd p
   refused_file Unwritten s p = absurd p

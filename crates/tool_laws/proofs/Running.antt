@@ -5,15 +5,15 @@ use Rattle.std.specs.Io.KnownBytes.{Keeps}
 use Rattle.mpy_base.specs.declared.room.Room.{Room}
 use Rattle.mpy_io.specs.Ports.{PortView}
 use Rattle.port_set.specs.Counts.{AreAccounted}
-use Rattle.run_commands.specs.library_runs.declared.ending.RunEnd.{RunEnd}
-use Rattle.run_commands.specs.library_runs.declared.ending.RunEnd.TheVariants as ends
-use Rattle.run_commands.specs.library_runs.Runs.{Sight, IsOver, RunsAs}
+use Rattle.meant_commands.specs.run_commands.library_runs.declared.ending.RunEnd.{RunEnd}
+use Rattle.meant_commands.specs.run_commands.library_runs.declared.ending.RunEnd.TheVariants as ends
+use Rattle.meant_commands.specs.run_commands.library_runs.Runs.{Sight, IsOver, RunsAs}
 use Rattle.mpy_endings.specs.declared.ending.Ending.{Ending}
 use Rattle.mpy_endings.specs.declared.ending.Ending.TheVariants.{Done, Unaccepted, Unread, Unverified, Unmerged, Unopened, Unfrozen, Unboarded, Different, Stopped, ReadFault, WriteFault, Unwritten, NoMemory, Absent}
-use Rattle.mpy_endings.specs.declared.ending.Stop.TheVariants.{Past, LibraryFault, LibraryUnaccepted, Raised, Memory, Steps, Unsaved}
+use Rattle.mpy_endings.specs.declared.ending.Stop.TheVariants.{Past, LibraryFault, LibraryUnaccepted, Raised, Memory, Steps, Unsaved, Unresumed}
 use Rattle.mpy_endings.specs.Ending.{IsSettled, IsRunStatus, status_of}
-use Rattle.run_commands.specs.declared.ready.Ready.{Ready}
-use Rattle.run_commands.specs.Run.{IsUnloaded, RanLibrary, Runs, Untouched, ending_of}
+use Rattle.meant_commands.specs.run_commands.declared.ready.Ready.{Ready}
+use Rattle.meant_commands.specs.run_commands.Run.{IsUnloaded, RanLibrary, Runs, Untouched, ending_of}
 use Rattle.meant_commands.specs.Alike.{AreAlike, IsWholeRun, Tells}
 use Rattle.tool_laws.specs.Once.{EndOnce}
 use Rattle.tool_laws.specs.Runs.{AnswersOnce, RunLaws}
@@ -69,6 +69,7 @@ module _ (Comes : Result Ready Ending → Type 0) (room : Room) (steps : ℕ) (o
   run_so (Stopped Memory) s p = made ends.Memory (Stopped Memory) tt refl p
   run_so (Stopped (Steps count)) s p = made ends.Limit (Stopped (Steps count)) tt (ap (λ (n : ℕ). Stopped (Steps n)) p.1) p.0
   run_so (Stopped Unsaved) s p = absurd p
+  run_so (Stopped (Unresumed fault)) s p = absurd p
   run_so ReadFault s p = inr p
   run_so WriteFault s p = absurd s
   run_so Unwritten s p = absurd p

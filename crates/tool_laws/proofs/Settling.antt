@@ -5,17 +5,17 @@ use Rattle.mpy_base.specs.declared.room.Room.{Room}
 use Rattle.mpy_base.specs.World.{PortState}
 use Rattle.mpy_io.specs.Files.{FileOf}
 use Rattle.mpy_io.specs.Ports.{PortView}
-use Rattle.run_commands.specs.library_runs.Runs.{Sight}
+use Rattle.meant_commands.specs.run_commands.library_runs.Runs.{Sight}
 use Rattle.manifest_files.specs.declared.frozen_fault.SourcesFault.TheVariants as sources
 use Rattle.manifest_files.specs.declared.frozen_fault.FrozenFault.TheVariants as frozen
 use Rattle.mpy_endings.specs.declared.ending.Ending.{Ending}
 use Rattle.mpy_endings.specs.declared.ending.Ending.TheVariants.{Done, Unaccepted, Unread, Unverified, Unmerged, Unopened, Unfrozen, Unboarded, Different, Stopped, ReadFault, WriteFault, Unwritten, NoMemory, Absent}
 use Rattle.mpy_endings.specs.declared.ending.BoardFault.TheVariants as boards
-use Rattle.mpy_endings.specs.declared.ending.Stop.TheVariants.{Past, LibraryFault, LibraryUnaccepted, Raised, Memory, Steps, Unsaved}
+use Rattle.mpy_endings.specs.declared.ending.Stop.TheVariants.{Past, LibraryFault, LibraryUnaccepted, Raised, Memory, Steps, Unsaved, Unresumed}
 use Rattle.mpy_endings.specs.Ending.{IsSettled, IsRunStatus, status_of}
 use Rattle.command_files.specs.Outside.{Ends, EndsAt, Outside, Writes, WritesOf}
-use Rattle.run_commands.specs.declared.ready.Ready.{Ready}
-use Rattle.run_commands.specs.Run.{EndsRun, Runs, sight_in}
+use Rattle.meant_commands.specs.run_commands.declared.ready.Ready.{Ready}
+use Rattle.meant_commands.specs.run_commands.Run.{EndsRun, Runs, sight_in}
 use Rattle.meant_commands.specs.Alike.{Tells}
 use Rattle.tool_laws.specs.Once.{EndOnce, IsDone, IsSettledStatus, OneStatus, Settled, Succeeds}
 use Rattle.tool_laws.specs.Runs.{AnswersOnce, OnFiles, RunLaws, SettledRun}
@@ -44,6 +44,7 @@ settled_of (Stopped Raised) s = tt
 settled_of (Stopped Memory) s = tt
 settled_of (Stopped (Steps count)) s = tt
 settled_of (Stopped Unsaved) s = tt
+settled_of (Stopped (Unresumed fault)) s = tt
 settled_of ReadFault s = absurd (s.reads refl)
 settled_of WriteFault s = absurd (s.writes refl)
 settled_of Unwritten s = absurd (s.writes refl)

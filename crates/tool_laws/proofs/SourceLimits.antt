@@ -26,8 +26,8 @@ use Rattle.library_files.specs.Loads.{Loading, Loaded, Past, Unaccepted, Loads, 
 use Rattle.source_files.specs.Sources.{ComesToSource, IsModuleOf, stored}
 use Rattle.meant_files.specs.Readings.{IsReading}
 use Rattle.meant_files.specs.Sources.{source_file}
-use Rattle.run_commands.specs.Base.{base_of}
-use Rattle.run_commands.specs.Go.{SourceLoadsOf}
+use Rattle.meant_commands.specs.run_commands.Base.{base_of}
+use Rattle.meant_commands.specs.run_commands.Go.{SourceLoadsOf}
 use Rattle.tool_laws.specs.AskedFor.{unit_imports}
 use Rattle.tool_laws.specs.Faultless.{IsSourceAsked, SourcesKeepLimits, main_asks}
 use Rattle.tool_laws.specs.Small.{AreSmall, BringsOnly, all_bytes}

@@ -33,12 +33,12 @@ use Rattle.command_files.specs.Outside.{Outside}
 use Rattle.command_files.proofs.Long.{not_read as refuses_unread}
 use Rattle.mpy_endings.specs.declared.ending.Ending.{Ending}
 use Rattle.mpy_endings.specs.Ending.{IsRunStatus, IsSettled, status_of}
-use Rattle.run_commands.specs.library_runs.Runs.{Sight}
-use Rattle.run_commands.specs.declared.ready.Ready.{Ready}
-use Rattle.run_commands.specs.Base.{base_of}
-use Rattle.run_commands.specs.Go.{SourceLoadsOf}
-use Rattle.run_commands.specs.Ready.{FirstOf, GoLibrary, RunLibrary, begins_image, not_read, of_file, of_image}
-use Rattle.run_commands.specs.Run.{EndsRun, FileLibrary, LoadsOf, Runs}
+use Rattle.meant_commands.specs.run_commands.library_runs.Runs.{Sight}
+use Rattle.meant_commands.specs.run_commands.declared.ready.Ready.{Ready}
+use Rattle.meant_commands.specs.run_commands.Base.{base_of}
+use Rattle.meant_commands.specs.run_commands.Go.{SourceLoadsOf}
+use Rattle.meant_commands.specs.run_commands.Ready.{FirstOf, GoLibrary, RunLibrary, begins_image, not_read, of_file, of_image}
+use Rattle.meant_commands.specs.run_commands.Run.{EndsRun, FileLibrary, LoadsOf, Runs}
 use Rattle.meant_commands.specs.GoMeant.{GoMeans, MeansSources}
 use Rattle.meant_commands.specs.Meant.{end_status}
 use Rattle.tool_laws.specs.AskedFor.{AsksFor, file_of, unit_imports}

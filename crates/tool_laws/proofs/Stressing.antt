@@ -8,10 +8,10 @@ use Rattle.mpy_io.specs.Ports.{PortView}
 use Rattle.mpy_tree.specs.Raw.{Module}
 use Rattle.mpy_tree.specs.Codes.{codes_of}
 use Rattle.bc_library.specs.Shelf.{module_at}
-use Rattle.run_commands.specs.declared.ready.Ready.{Ready}
-use Rattle.run_commands.specs.Ready.{GoLibrary}
-use Rattle.run_commands.specs.Run.{EndsRun, sight_in}
-use Rattle.run_commands.specs.Stress.{EndsStress, Goes, HasCodes, HasLibrary, Ran, Unloaded, beside, lines, stress_files, stress_name}
+use Rattle.meant_commands.specs.run_commands.declared.ready.Ready.{Ready}
+use Rattle.meant_commands.specs.run_commands.Ready.{GoLibrary}
+use Rattle.meant_commands.specs.run_commands.Run.{EndsRun, sight_in}
+use Rattle.meant_commands.specs.run_commands.Stress.{EndsStress, Goes, HasCodes, HasLibrary, Ran, Unloaded, beside, lines, stress_files, stress_name}
 use Rattle.tool_laws.specs.Runs.{AnswersOnce, OnFiles, OneRunStatus, RunLaws, SettledRun}
 use Rattle.tool_laws.proofs.Running.{run_unmade}
 use Rattle.tool_laws.proofs.Settling.{run_once, settled_by}

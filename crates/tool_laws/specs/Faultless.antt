@@ -13,10 +13,10 @@ use Rattle.meant_files.specs.Readings.{IsReading}
 use Rattle.meant_files.specs.Sources.{HoldsSource, source_file}
 use Rattle.command_files.specs.mpy_compile.Compiled.{IsFault}
 use Rattle.command_files.specs.Opened.{HoldsModule}
-use Rattle.run_commands.specs.Base.{base_of}
-use Rattle.run_commands.specs.Go.{SourceLoadsOf}
-use Rattle.run_commands.specs.Ready.{begins_image}
-use Rattle.run_commands.specs.Run.{LoadsOf}
+use Rattle.meant_commands.specs.run_commands.Base.{base_of}
+use Rattle.meant_commands.specs.run_commands.Go.{SourceLoadsOf}
+use Rattle.meant_commands.specs.run_commands.Ready.{begins_image}
+use Rattle.meant_commands.specs.run_commands.Run.{LoadsOf}
 use Rattle.tool_laws.specs.AskedFor.{AsksFor}
 
 -- the main source asks for the name, or a source does that the file of such a name is read as

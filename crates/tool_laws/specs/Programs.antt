@@ -10,7 +10,7 @@ use Rattle.py_meaning.specs.Tree.{Name}
 use Rattle.py_meaning.specs.Program.{Unit, Entry, Program, entry_in}
 use Rattle.mpy_endings.specs.Ending.{IsRunStatus}
 use Rattle.command_files.specs.Outside.{Outside}
-use Rattle.run_commands.specs.Base.{base_of}
+use Rattle.meant_commands.specs.run_commands.Base.{base_of}
 use Rattle.meant_commands.specs.Made.{HoldsMade}
 use Rattle.meant_commands.specs.Meant.{DoesAsMeant}
 use Rattle.tool_laws.specs.AskedFor.{HoldsEntry, IsAskedFor}

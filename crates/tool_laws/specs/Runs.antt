@@ -8,13 +8,13 @@ use Rattle.port_set.specs.Calls.{Tell}
 use Rattle.port_set.specs.Counts.{AreAccounted}
 use Rattle.bc_library.specs.Shelf.{Shelf}
 use Rattle.bc_scheme.specs.bc_machine.Library.{Name}
-use Rattle.run_commands.specs.library_runs.declared.ending.RunEnd.{RunEnd}
-use Rattle.run_commands.specs.library_runs.Runs.{Sight}
+use Rattle.meant_commands.specs.run_commands.library_runs.declared.ending.RunEnd.{RunEnd}
+use Rattle.meant_commands.specs.run_commands.library_runs.Runs.{Sight}
 use Rattle.mpy_endings.specs.declared.ending.Ending.{Ending}
 use Rattle.mpy_endings.specs.Ending.{IsSettled}
 use Rattle.command_files.specs.Outside.{Outside}
 use Rattle.command_files.specs.Over.{EndsAtBase, WentOver}
-use Rattle.run_commands.specs.declared.ready.Ready.{Ready}
+use Rattle.meant_commands.specs.run_commands.declared.ready.Ready.{Ready}
 use Rattle.meant_commands.specs.Alike.{AreAlike, IsWholeRun, Tells}
 use Rattle.tool_laws.specs.Once.{IsSettledStatus}
 

@@ -13,7 +13,7 @@ use Rattle.library_files.specs.Loads.{main_name}
 use Rattle.source_files.specs.Sources.{IsModuleOf, stored}
 use Rattle.meant_files.specs.Readings.{IsReading}
 use Rattle.meant_files.specs.Sources.{source_file}
-use Rattle.run_commands.specs.Base.{base_of}
+use Rattle.meant_commands.specs.run_commands.Base.{base_of}
 use Rattle.tool_laws.specs.Faultless.{IsSourceAsked}
 
 -- the bytes of the files of these names together

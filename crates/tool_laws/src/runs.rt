@@ -6,11 +6,11 @@ ghost use Rattle.mpy_io.specs.Files.{FileOf};
 ghost use Rattle.port_set.specs.Counts.{AreAccounted};
 ghost use Rattle.bc_library.specs.Shelf.{Shelf};
 ghost use Rattle.image_open.specs.Opens.{IsOpenedOf};
-ghost use Rattle.run_commands.specs.library_runs.Runs.{Sight};
+ghost use Rattle.meant_commands.specs.run_commands.library_runs.Runs.{Sight};
 ghost use Rattle.mpy_endings.specs.declared.ending.Ending.{Ending};
 ghost use Rattle.mpy_endings.specs.Ending.{IsSettled};
-ghost use Rattle.run_commands.specs.Ready.{GoLibrary, RunLibrary};
-ghost use Rattle.run_commands.specs.Run.{Runs};
+ghost use Rattle.meant_commands.specs.run_commands.Ready.{GoLibrary, RunLibrary};
+ghost use Rattle.meant_commands.specs.run_commands.Run.{Runs};
 ghost use Rattle.meant_commands.specs.Alike.{AreAlike, Tells};
 ghost use Rattle.tool_laws.specs.Once.{EndOnce};
 ghost use Rattle.tool_laws.specs.Runs.{AnswersOnce};
@@ -35,7 +35,8 @@ pub fn library_law()
 pub fn go_law()
     ensures one_ending { (level : ℕ) (files : FileOf) (name : List ℕ) (room : Room) (steps : ℕ) (old new_a new_b : Sight) (said_a said_b : List ℕ)
         → Tells old → AreAccounted old.ports new_a.ports → AreAccounted old.ports new_b.ports
-        → EndOnce (Runs (GoLibrary level (Some files) name) room steps old new_a said_a) (Runs (GoLibrary level (Some files) name) room steps old new_b said_b) }
+        → EndOnce (Runs (GoLibrary level (Some files) name) room steps old new_a said_a)
+        (Runs (GoLibrary level (Some files) name) room steps old new_b said_b) }
     ensures alike { (level : ℕ) (files : FileOf) (name : List ℕ) (room : Room) (steps : ℕ) (old new_a new_b : Sight) (said_a said_b : List ℕ)
         → Tells old → AreAccounted old.ports new_a.ports → AreAccounted old.ports new_b.ports → (one other : Ending) → IsSettled one → IsSettled other
         → Runs (GoLibrary level (Some files) name) room steps old new_a said_a one

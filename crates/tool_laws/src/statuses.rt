@@ -38,12 +38,12 @@ ghost use Rattle.meant_commands.specs.file_commands.Freeze.{Freezes};
 ghost use Rattle.meant_commands.specs.file_commands.Migrate.{Migrates};
 ghost use Rattle.board_command.specs.Boards.{Boards};
 ghost use Rattle.board_command.specs.Plans.{HoldsPlan};
-ghost use Rattle.run_commands.specs.Base as bases;
-ghost use Rattle.run_commands.specs.declared.ready.Ready.{Ready};
-ghost use Rattle.run_commands.specs.Ready.{GoLibrary, RunLibrary};
-ghost use Rattle.run_commands.specs.Run.{EndsRun};
+ghost use Rattle.meant_commands.specs.run_commands.Base as bases;
+ghost use Rattle.meant_commands.specs.run_commands.declared.ready.Ready.{Ready};
+ghost use Rattle.meant_commands.specs.run_commands.Ready.{GoLibrary, RunLibrary};
+ghost use Rattle.meant_commands.specs.run_commands.Run.{EndsRun};
 ghost use Rattle.meant_commands.specs.Meant.{HoldsProgram, end_status};
-ghost use Rattle.run_commands.specs.Stress.{EndsStress};
+ghost use Rattle.meant_commands.specs.run_commands.Stress.{EndsStress};
 ghost use Rattle.tool_laws.specs.Once.{OneStatus, OverBase, Succeeds};
 ghost use Rattle.tool_laws.specs.Runs.{OnFiles, OneRunStatus, RunOver, SettledRun};
 

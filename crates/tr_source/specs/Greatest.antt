@@ -1,7 +1,13 @@
 -- The greatest measure of a call or a dict display that stands in a text, code that is never reached included. From level 1 on an
 -- assertion has no code.
 use Rattle.std.specs.Prelude.{ℕ, max}
-use Rattle.emit_measures.specs.bc_scheme.py_meaning.Tree.{Expr, Constant, Named, Unary, Not, Binary, And, Or, Compare, Cond, TupleOf, ListOf, DictOf, Attr, Index, Call, Method, Exprs, NoExpr, More, Links, Last, Link, Pairs, NoPair, Pair, Keys, NoKey, Key, Target, ToName, ToAttr, ToIndex, ToEach, Targets, Only, Then, Stmt, Do, Assign, AugName, AugAttr, AugIndex, Delete, Return, Raise, Assert, AssertWith, If, While, For, Try, Finally, TryFinally, Def, Block, End, Next, Branches, Else, Case, Handlers, NoHandler, Any, On, OnAs}
+use Rattle.emit_measures.specs.bc_scheme.py_meaning.Tree.{Expr, Constant, Named, Unary, Not, Binary, And, Or, Compare, Cond}
+use Rattle.emit_measures.specs.bc_scheme.py_meaning.Tree.{TupleOf, ListOf, DictOf, Attr, Index, Call, Method, Exprs, NoExpr, More}
+use Rattle.emit_measures.specs.bc_scheme.py_meaning.Tree.{Links, Last, Link, Pairs, NoPair, Pair, Keys, NoKey, Key, Target}
+use Rattle.emit_measures.specs.bc_scheme.py_meaning.Tree.{ToName, ToAttr, ToIndex, ToEach, Targets, Only, Then, Stmt, Do, Assign}
+use Rattle.emit_measures.specs.bc_scheme.py_meaning.Tree.{AugName, AugAttr, AugIndex, Delete, Return, Raise, Assert, AssertWith}
+use Rattle.emit_measures.specs.bc_scheme.py_meaning.Tree.{If, While, For, Try, Finally, TryFinally, Def, Block, End, Next}
+use Rattle.emit_measures.specs.bc_scheme.py_meaning.Tree.{Branches, Else, Case, Handlers, NoHandler, Any, On, OnAs}
 use Rattle.emit_measures.specs.bc_scheme.Heights.{at_level}
 
 -- what a call measures, by its arguments and keywords, and what a dict display does, by its pairs
@@ -70,7 +76,8 @@ module _ (of_call : Exprs → Keys → ℕ) (of_dict : Pairs → ℕ) where
       greatest_stmt (For t e body rest) = max (max (greatest_store t) (greatest e)) (max (greatest_block body) (greatest_block rest))
       greatest_stmt (Try body handlers rest) = max (greatest_block body) (max (greatest_handlers handlers) (greatest_block rest))
       greatest_stmt (Finally body last) = max (greatest_block body) (greatest_block last)
-      greatest_stmt (TryFinally body handlers rest last) = max (max (greatest_block body) (max (greatest_handlers handlers) (greatest_block rest))) (greatest_block last)
+      greatest_stmt (TryFinally body handlers rest last) =
+          max (max (greatest_block body) (max (greatest_handlers handlers) (greatest_block rest))) (greatest_block last)
       greatest_stmt (Def number name params defaults body) = greatest_of defaults
       greatest_stmt _ = 0
 

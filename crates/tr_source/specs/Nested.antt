@@ -1,6 +1,7 @@
 -- How deep functions nest in one another.
 use Rattle.std.specs.Prelude.{ℕ, suc, max}
-use Rattle.emit_measures.specs.bc_scheme.py_meaning.Tree.{Stmt, If, While, For, Try, Finally, TryFinally, Def, Block, End, Next, Branches, Else, Case, Handlers, NoHandler, Any, On, OnAs}
+use Rattle.emit_measures.specs.bc_scheme.py_meaning.Tree.{Stmt, If, While, For, Try, Finally, TryFinally, Def, Block, End, Next}
+use Rattle.emit_measures.specs.bc_scheme.py_meaning.Tree.{Branches, Else, Case, Handlers, NoHandler, Any, On, OnAs}
 
 abbrev mutual
   pub nested : Block → ℕ

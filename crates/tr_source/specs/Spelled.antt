@@ -2,7 +2,14 @@
 use Rattle.std.specs.Prelude.{ℕ, ◌≤◌, ◌<◌, ◌^◌, ℤ, pos, negsuc, List, [], ◌∷◌, length, Option, Some, None, All}
 use Rattle.bc_resolved.specs.mpy_base.Val.{Val, Nil, Truth, Int, Str, Fixed, Empty, Built, At}
 use Rattle.py_meaning.specs.py_tree.declared.stmt.Alias.{Alias}
-use Rattle.emit_measures.specs.bc_scheme.py_meaning.Tree.{Name, Expr, Constant, Named, Unary, Not, Binary, And, Or, Compare, Cond, TupleOf, ListOf, DictOf, Attr, Index, Call, Method, Exprs, NoExpr, More, Links, Last, Link, Pairs, NoPair, Pair, Keys, NoKey, Key, count, Target, ToName, ToAttr, ToIndex, ToEach, Targets, Only, Then, Stmt, Do, Assign, AugName, AugAttr, AugIndex, Delete, Pass, Break, Continue, ReturnNone, Return, Reraise, Raise, Assert, AssertWith, Import, From, If, While, For, Try, Finally, TryFinally, Def, Block, End, Next, Branches, Else, Case, Handlers, NoHandler, Any, On, OnAs, Function}
+use Rattle.emit_measures.specs.bc_scheme.py_meaning.Tree.{Name, Expr, Constant, Named, Unary, Not, Binary, And, Or, Compare, Cond}
+use Rattle.emit_measures.specs.bc_scheme.py_meaning.Tree.{TupleOf, ListOf, DictOf, Attr, Index, Call, Method, Exprs, NoExpr, More}
+use Rattle.emit_measures.specs.bc_scheme.py_meaning.Tree.{Links, Last, Link, Pairs, NoPair, Pair, Keys, NoKey, Key, count, Target}
+use Rattle.emit_measures.specs.bc_scheme.py_meaning.Tree.{ToName, ToAttr, ToIndex, ToEach, Targets, Only, Then, Stmt, Do, Assign}
+use Rattle.emit_measures.specs.bc_scheme.py_meaning.Tree.{AugName, AugAttr, AugIndex, Delete, Pass, Break, Continue, ReturnNone}
+use Rattle.emit_measures.specs.bc_scheme.py_meaning.Tree.{Return, Reraise, Raise, Assert, AssertWith, Import, From, If, While}
+use Rattle.emit_measures.specs.bc_scheme.py_meaning.Tree.{For, Try, Finally, TryFinally, Def, Block, End, Next, Branches, Else}
+use Rattle.emit_measures.specs.bc_scheme.py_meaning.Tree.{Case, Handlers, NoHandler, Any, On, OnAs, Function}
 
 -- ---- names and expressions
 
@@ -118,22 +125,27 @@ abbrev mutual
   StmtSpelled line last (If branches) = BranchesSpelled line last branches
   StmtSpelled line last (While e body rest) = IsSpelled e × ((next : ℕ) × BlockSpelled line next body × BlockSpelled next last rest)
   StmtSpelled line last (For t e body rest) = TargetSpelled t × IsSpelled e × ((next : ℕ) × BlockSpelled line next body × BlockSpelled next last rest)
-  StmtSpelled line last (Try body handlers rest) = (next behind : ℕ) × BlockSpelled line next body × HandlersSpelled next behind handlers × BlockSpelled behind last rest
+  StmtSpelled line last (Try body handlers rest) = (next behind : ℕ) × BlockSpelled line next body × HandlersSpelled next behind handlers
+      × BlockSpelled behind last rest
   StmtSpelled line last (Finally body end) = (next : ℕ) × BlockSpelled line next body × BlockSpelled next last end
   StmtSpelled line last (TryFinally body handlers rest end) =
-      (next behind further : ℕ) × BlockSpelled line next body × HandlersSpelled next behind handlers × BlockSpelled behind further rest × BlockSpelled further last end
+      (next behind further : ℕ) × BlockSpelled line next body × HandlersSpelled next behind handlers × BlockSpelled behind further rest
+      × BlockSpelled further last end
   StmtSpelled line last (Def number name params defaults body) =
       IsAscii name × AllAscii params × (count defaults ≤ length params) × AreSpelled defaults × BlockSpelled line last body
 
   pub BranchesSpelled : (first last : ℕ) → Branches → Type 0
   BranchesSpelled first last (Else b) = BlockSpelled first last b
-  BranchesSpelled first last (Case line e b branches) = (first ≤ line) × IsSpelled e × ((next : ℕ) × BlockSpelled line next b × BranchesSpelled next last branches)
+  BranchesSpelled first last (Case line e b branches) = (first ≤ line) × IsSpelled e
+      × ((next : ℕ) × BlockSpelled line next b × BranchesSpelled next last branches)
 
   pub HandlersSpelled : (first last : ℕ) → Handlers → Type 0
   HandlersSpelled first last NoHandler = first ≤ last
   HandlersSpelled first last (Any line b) = (first ≤ line) × BlockSpelled line last b
-  HandlersSpelled first last (On line e b handlers) = (first ≤ line) × IsSpelled e × ((next : ℕ) × BlockSpelled line next b × HandlersSpelled next last handlers)
-  HandlersSpelled first last (OnAs line e name b handlers) = (first ≤ line) × IsSpelled e × IsAscii name × ((next : ℕ) × BlockSpelled line next b × HandlersSpelled next last handlers)
+  HandlersSpelled first last (On line e b handlers) = (first ≤ line) × IsSpelled e
+      × ((next : ℕ) × BlockSpelled line next b × HandlersSpelled next last handlers)
+  HandlersSpelled first last (OnAs line e name b handlers) = (first ≤ line) × IsSpelled e × IsAscii name
+      × ((next : ℕ) × BlockSpelled line next b × HandlersSpelled next last handlers)
 
 -- ---- functions
 

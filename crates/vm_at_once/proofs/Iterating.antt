@@ -30,8 +30,7 @@ use Rattle.state_values.proofs.frame_values_lemmas.Settling.{of_outcome}
 use Rattle.state_values.proofs.frame_values_lemmas.Visits.{item_free}
 use Rattle.state_values.specs.frame_exits.Known.{IsKnownSlot}
 use Rattle.state_values.specs.vm_fetching.declared.instruction.Fetched.{Fetched}
-use Rattle.state_values.specs.vm_fetching.declared.instruction.Instruction.TheVariants as fetched
-use Rattle.state_values.specs.vm_fetching.declared.operations.JumpOp.TheVariants as jump_ops
+use Rattle.state_values.specs.vm_fetching.Instructions as fetched
 use Rattle.state_values.specs.vm_states.State.{IsKnownSlot as IsKnownSlotOf}
 use Rattle.state_values.specs.vm_states.Acting.{RunsOver}
 use Rattle.state_values.specs.Keeping.{ActsKeeping}
@@ -109,7 +108,7 @@ module _ {texts : StrNo → Option (List ℕ)} {tuples : ConstNo → Option (Lis
 -- ===============
 
 abbrev pub for_at : (target end : ℕ) → Fetched
-for_at target end = record { instruction = fetched.Jump jump_ops.ForIter target; end = end }
+for_at target end = record { instruction = fetched.for_iter target; end = end }
 
 module _ (texts : StrNo → Option (List ℕ)) (tuples : ConstNo → Option (List Value)) (heap : Heap Value ℕ) (target end : ℕ) (old new : Calls) where
   does_jumps : JumpSteps texts tuples (Jumps ops.ForIter) target end heap heap old.calls new.calls (Ok tt) → DoesBehind texts tuples (for_at target end) 0 heap heap old new (Ok tt)

@@ -1,53 +1,70 @@
-//! Instructions by their forms.
+//! Instructions by their families.
 
 ghost use Rattle.std.specs.Prelude.{◌≡◌, Ok, true, false};
 ghost use Rattle.state_values.specs.prim_assignments.prim_faults.Sights.{under};
-ghost use Rattle.state_values.specs.vm_fetching.declared.instruction.Instruction.TheVariants as fetched;
-ghost use Rattle.state_values.specs.Moving.{fetched_plain};
+ghost use Rattle.state_values.specs.vm_fetching.Instructions as fetched;
+ghost use Rattle.state_values.specs.Moving.{fetched_item};
 ghost use Rattle.state_values.specs.vm_states.Acting.{RunsOver};
 ghost use Rattle.state_values.specs.Keeping.{ActsKeeping};
 ghost use Rattle.vm_at_once.specs.AtOnce.{ActsAtOnce};
 
 use crate::doing::done;
 use crate::items::{load_item, store_item};
-use crate::jumps::jump_at_once;
+use crate::iterators::iterate;
+use crate::jumps::test_at_once;
 use crate::locals::local_at_once;
 use crate::names::name_at_once;
 use crate::operators::binary_at_once;
 use arena_heap::{Arena, Constants};
-use state_values::{Fetched, Instruction, PlainOp, load_int, load_object, move_on, unary_op};
+use state_values::{
+    Action, Fetched, Instruction, ItemOp, Step, jump, load_int, load_object, load_text, move_on,
+    unary_op,
+};
 use vm_frames::Frames;
 
-/// An operation without an operand: those that move slots alone are carried out.
+/// An operation on an item: one that is loaded is carried out.
 #[inline(always)]
-fn plain_at_once<C: Constants>(
+fn item_at_once<C: Constants>(
     frames: &mut Frames,
     arena: &Arena,
     consts: &C,
-    op: PlainOp,
+    op: ItemOp,
     end: u32,
 ) -> Option<u64>
-    requires runs { under C.Constants consts.now RunsOver arena.now frames.old (fetched_plain op end) }
-    ensures { under C.Constants consts.now ActsAtOnce (fetched_plain op end) arena.now frames.old frames.new result }
+    requires runs { under C.Constants consts.now RunsOver arena.now frames.old (fetched_item op end) }
+    ensures { under C.Constants consts.now ActsAtOnce (fetched_item op end) arena.now frames.old frames.new result }
 {
     match op {
-        PlainOp::LoadConstFalse => done(move_on(frames, arena, consts, op, end)),
-        PlainOp::LoadConstNone => done(move_on(frames, arena, consts, op, end)),
-        PlainOp::LoadConstTrue => done(move_on(frames, arena, consts, op, end)),
-        PlainOp::LoadNull => done(move_on(frames, arena, consts, op, end)),
-        PlainOp::DupTop => done(move_on(frames, arena, consts, op, end)),
-        PlainOp::DupTopTwo => done(move_on(frames, arena, consts, op, end)),
-        PlainOp::PopTop => done(move_on(frames, arena, consts, op, end)),
-        PlainOp::RotTwo => done(move_on(frames, arena, consts, op, end)),
-        PlainOp::RotThree => done(move_on(frames, arena, consts, op, end)),
-        PlainOp::LoadSubscr => load_item(frames, arena, consts, end),
-        PlainOp::StoreSubscr
-        | PlainOp::EndFinally
-        | PlainOp::GetIterStack
-        | PlainOp::StoreMap
-        | PlainOp::ReturnValue
-        | PlainOp::RaiseLast
-        | PlainOp::RaiseObj => None,
+        ItemOp::LoadSubscr => load_item(frames, arena, consts, end),
+        ItemOp::StoreSubscr | ItemOp::StoreMap => None,
+    }
+}
+
+/// An instruction that stays in the running call: it is carried out if it comes to no stop and changes no object.
+#[inline(always)]
+fn step_at_once<C: Constants>(
+    frames: &mut Frames,
+    arena: &Arena,
+    consts: &C,
+    step: Step,
+    end: u32,
+) -> Option<u64>
+    requires runs { under C.Constants consts.now RunsOver arena.now frames.old (record { instruction = fetched.stays step; end = end }) }
+    ensures acts { under C.Constants consts.now ActsAtOnce (record { instruction = fetched.stays step; end = end }) arena.now frames.old frames.new result }
+{
+    match step {
+        Step::Move(op) => done(move_on(frames, arena, consts, op, end)),
+        Step::Int(n) => done(load_int(frames, arena, consts, n, end)),
+        Step::Text(text) => done(load_text(frames, arena, consts, text, end)),
+        Step::Object(v) => done(load_object(frames, arena, consts, v, end)),
+        Step::Local(op, n) => local_at_once(frames, arena, consts, op, n, end),
+        Step::Item(op) => item_at_once(frames, arena, consts, op, end),
+        Step::Name(op, name) => name_at_once(frames, arena, consts, op, name, end),
+        Step::Unary(number) => done(unary_op(frames, arena, consts, number, end)),
+        Step::Jump(target) => done(jump(frames, arena, consts, target, end)),
+        Step::Test(op, target) => test_at_once(frames, arena, consts, op, target, end),
+        Step::ForIter(target) => iterate(frames, arena, consts, target, end),
+        _ => None,
     }
 }
 
@@ -67,36 +84,36 @@ pub fn act_at_once<C: Constants>(
 {
     let end = fetched.end;
     match fetched.instruction {
-        Instruction::Plain(op) => plain_at_once(frames, arena, consts, op, end),
-        Instruction::Number(op, n) => local_at_once(frames, arena, consts, op, n, end),
-        Instruction::Int(n) => done(load_int(frames, arena, consts, n, end)),
-        Instruction::Unary(number) => done(unary_op(frames, arena, consts, number, end)),
+        Instruction::Acts(action) => match action {
+            Action::Stays(step) => step_at_once(frames, arena, consts, step, end),
+            _ => None,
+        },
         Instruction::Binary(number) => binary_at_once(frames, arena, consts, number, end),
-        Instruction::Name(op, text) => name_at_once(frames, arena, consts, op, text, end),
-        Instruction::Object(v) => done(load_object(frames, arena, consts, v, end)),
-        Instruction::Jump(op, target) => jump_at_once(frames, arena, consts, op, target, end),
-        Instruction::Unwind {
-            target: _target,
-            byte: _byte,
-        } => None,
+        Instruction::Calls(_op, _number) => None,
     }
 }
 
-/// An operation without an operand: one that sets an item is carried out.
+/// An instruction that stays in the running call: it is carried out if it sets an item of a list at a small integer that counts from
+/// its front. Whether it was done.
 #[inline(always)]
-fn store_plain<C: Constants>(
+fn store_step<C: Constants>(
     frames: &mut Frames,
     arena: &mut Arena,
     consts: &C,
-    op: PlainOp,
+    step: Step,
     end: u32,
 ) -> bool
-    requires runs { under C.Constants consts.now RunsOver arena.old frames.old (fetched_plain op end) }
-    ensures done { result ≡ true → under C.Constants consts.now ActsKeeping (fetched_plain op end) 0 arena.old arena.new frames.old frames.new (Ok tt) }
+    requires runs { under C.Constants consts.now RunsOver arena.old frames.old (record { instruction = fetched.stays step; end = end }) }
+    ensures done { result ≡ true
+        → under C.Constants consts.now ActsKeeping (record { instruction = fetched.stays step; end = end }) 0 arena.old arena.new
+        frames.old frames.new (Ok tt) }
     ensures left { result ≡ false → (frames.new ≡ frames.old) × (arena.new ≡ arena.old) }
 {
-    match op {
-        PlainOp::StoreSubscr => store_item(frames, arena, consts, end),
+    match step {
+        Step::Item(op) => match op {
+            ItemOp::StoreSubscr => store_item(frames, arena, consts, end),
+            _ => false,
+        },
         _ => false,
     }
 }
@@ -115,7 +132,10 @@ pub fn store_at_once<C: Constants>(
     ensures left { result ≡ false → (frames.new ≡ frames.old) × (arena.new ≡ arena.old) }
 {
     match fetched.instruction {
-        Instruction::Plain(op) => store_plain(frames, arena, consts, op, fetched.end),
+        Instruction::Acts(action) => match action {
+            Action::Stays(step) => store_step(frames, arena, consts, step, fetched.end),
+            _ => false,
+        },
         _ => false,
     }
 }

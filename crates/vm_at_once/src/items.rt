@@ -11,8 +11,8 @@ ghost use Rattle.state_values.specs.prim_assignments.prim_faults.Outcomes.{IsOut
 ghost use Rattle.state_values.specs.prim_assignments.prim_faults.Sights.{under, sight, Tells, TellsAll};
 ghost use Rattle.state_values.specs.vm_frames.Calls.{OfRunning, on_running};
 ghost use Rattle.state_values.specs.frame_values.Slots.{HasValue, without};
-ghost use Rattle.state_values.specs.vm_fetching.declared.operations.PlainOp.TheVariants as plain_ops;
-ghost use Rattle.state_values.specs.Moving.{fetched_plain};
+ghost use Rattle.state_values.specs.vm_fetching.declared.operations.ItemOp.TheVariants as item_ops;
+ghost use Rattle.state_values.specs.Moving.{fetched_item};
 ghost use Rattle.state_values.specs.vm_states.Acting.{RunsOver};
 ghost use Rattle.state_values.specs.Keeping.{ActsKeeping};
 ghost use Rattle.vm_at_once.specs.AtOnce.{ActsAtOnce};
@@ -78,8 +78,8 @@ pub(crate) fn load_item<C: Constants>(
     consts: &C,
     end: u32,
 ) -> Option<u64>
-    requires runs { under C.Constants consts.now RunsOver arena.now frames.old (fetched_plain plain_ops.LoadSubscr end) }
-    ensures { under C.Constants consts.now ActsAtOnce (fetched_plain plain_ops.LoadSubscr end) arena.now frames.old frames.new result }
+    requires runs { under C.Constants consts.now RunsOver arena.now frames.old (fetched_item item_ops.LoadSubscr end) }
+    ensures { under C.Constants consts.now ActsAtOnce (fetched_item item_ops.LoadSubscr end) arena.now frames.old frames.new result }
 {
     acting_law();
     tops_law();
@@ -142,9 +142,9 @@ pub(crate) fn store_item<C: Constants>(
     consts: &C,
     end: u32,
 ) -> bool
-    requires runs { under C.Constants consts.now RunsOver arena.old frames.old (fetched_plain plain_ops.StoreSubscr end) }
+    requires runs { under C.Constants consts.now RunsOver arena.old frames.old (fetched_item item_ops.StoreSubscr end) }
     ensures done { result ≡ true
-        → under C.Constants consts.now ActsKeeping (fetched_plain plain_ops.StoreSubscr end) 0 arena.old arena.new frames.old frames.new
+        → under C.Constants consts.now ActsKeeping (fetched_item item_ops.StoreSubscr end) 0 arena.old arena.new frames.old frames.new
         (Ok tt) }
     ensures left { result ≡ false → (frames.new ≡ frames.old) × (arena.new ≡ arena.old) }
 {

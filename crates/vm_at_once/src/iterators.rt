@@ -9,8 +9,7 @@ ghost use Rattle.state_values.specs.vm_frames.declared.slot.Slot.TheVariants as 
 ghost use Rattle.state_values.specs.vm_frames.Calls.{OfRunning, on_running};
 ghost use Rattle.state_values.specs.prim_assignments.prim_operators.Operands.{HasItems, IsNested};
 ghost use Rattle.state_values.specs.frame_values.Slots.{IsIterator, iterator_over, with_item};
-ghost use Rattle.state_values.specs.vm_fetching.declared.instruction.Instruction.TheVariants as fetched;
-ghost use Rattle.state_values.specs.vm_fetching.declared.operations.JumpOp.TheVariants as jump_ops;
+ghost use Rattle.state_values.specs.vm_fetching.Instructions as fetched;
 ghost use Rattle.state_values.specs.vm_states.Acting.{RunsOver};
 ghost use Rattle.vm_at_once.specs.AtOnce.{ActsAtOnce};
 
@@ -116,9 +115,9 @@ pub(crate) fn iterate<C: Constants>(
     target: u32,
     end: u32,
 ) -> Option<u64>
-    requires runs { under C.Constants consts.now RunsOver arena.now frames.old (record { instruction = fetched.Jump jump_ops.ForIter target; end = end }) }
+    requires runs { under C.Constants consts.now RunsOver arena.now frames.old (record { instruction = fetched.for_iter target; end = end }) }
     ensures { under C.Constants consts.now ActsAtOnce (record {
-      instruction = fetched.Jump jump_ops.ForIter target;
+      instruction = fetched.for_iter target;
       end = end;
     }) arena.now frames.old frames.new result }
 {

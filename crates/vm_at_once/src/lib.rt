@@ -13,6 +13,6 @@ mod operators;
 
 pub use acting::{act_at_once, store_at_once};
 pub use state_values::{
-    End, Fetched, Instruction, ModuleName, NameOp, NumberOp, PlainOp, Row, Rows, fetch,
+    Action, CallOp, End, Fetched, Instruction, LeaveOp, MakeOp, ModuleName, Row, Rows, Step, fetch,
     visits_binary_op,
 };

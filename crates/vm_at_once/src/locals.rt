@@ -6,8 +6,8 @@ ghost use Rattle.state_values.specs.bc_progress.bc_ops.declared.instr.Instr.TheV
 ghost use Rattle.state_values.specs.bc_progress.bc_machine.Library.{Plain};
 ghost use Rattle.state_values.specs.prim_assignments.prim_faults.Sights.{under, TellsAll};
 ghost use Rattle.state_values.specs.vm_frames.Calls.{OfRunning};
-ghost use Rattle.state_values.specs.vm_fetching.declared.instruction.Instruction.TheVariants as fetched;
-ghost use Rattle.state_values.specs.vm_fetching.declared.operations.NumberOp.TheVariants as number_ops;
+ghost use Rattle.state_values.specs.vm_fetching.Instructions as fetched;
+ghost use Rattle.state_values.specs.vm_fetching.declared.operations.LocalOp.TheVariants as local_ops;
 ghost use Rattle.state_values.specs.frame_values.Effects.{Steps, Leaves};
 ghost use Rattle.state_values.specs.frame_values.Slots.{Puts, HasLocal, with_value};
 ghost use Rattle.state_values.specs.vm_states.Acting.{RunsOver};
@@ -16,7 +16,7 @@ ghost use Rattle.vm_at_once.specs.AtOnce.{ActsAtOnce};
 use crate::doing::{done, go_with};
 use arena_heap::{Arena, Constants};
 use prim_faults::Stop;
-use state_values::{NumberOp, acting_law, assigned, store_fast, store_fast_n};
+use state_values::{LocalOp, acting_law, assigned, store_fast, store_fast_n};
 use vm_frames::{Frames, Slot};
 
 /// LOAD_FAST, in one byte or in more, as `state_values::load_fast` does it.
@@ -55,9 +55,9 @@ fn load_short<C: Constants>(
     n: u32,
     end: u32,
 ) -> Option<u64>
-    requires runs { under C.Constants consts.now RunsOver arena.now frames.old (record { instruction = fetched.Number number_ops.LoadFast n; end = end }) }
+    requires runs { under C.Constants consts.now RunsOver arena.now frames.old (record { instruction = fetched.local local_ops.LoadFast n; end = end }) }
     ensures { under C.Constants consts.now ActsAtOnce (record {
-      instruction = fetched.Number number_ops.LoadFast n;
+      instruction = fetched.local local_ops.LoadFast n;
       end = end;
     }) arena.now frames.old frames.new result }
 {
@@ -74,9 +74,9 @@ fn load_long<C: Constants>(
     n: u32,
     end: u32,
 ) -> Option<u64>
-    requires runs { under C.Constants consts.now RunsOver arena.now frames.old (record { instruction = fetched.Number number_ops.LoadFastN n; end = end }) }
+    requires runs { under C.Constants consts.now RunsOver arena.now frames.old (record { instruction = fetched.local local_ops.LoadFastN n; end = end }) }
     ensures { under C.Constants consts.now ActsAtOnce (record {
-      instruction = fetched.Number number_ops.LoadFastN n;
+      instruction = fetched.local local_ops.LoadFastN n;
       end = end;
     }) arena.now frames.old frames.new result }
 {
@@ -84,32 +84,24 @@ fn load_long<C: Constants>(
     done(load(frames, arena, consts, n, end))
 }
 
-/// An operation with a number: those on locals are carried out, but the deletion.
+/// An operation on a local: it is carried out, but for a deletion.
 #[inline(always)]
 pub(crate) fn local_at_once<C: Constants>(
     frames: &mut Frames,
     arena: &Arena,
     consts: &C,
-    op: NumberOp,
+    op: LocalOp,
     n: u32,
     end: u32,
 ) -> Option<u64>
-    requires runs { under C.Constants consts.now RunsOver arena.now frames.old (record { instruction = fetched.Number op n; end = end }) }
-    ensures { under C.Constants consts.now ActsAtOnce (record { instruction = fetched.Number op n; end = end }) arena.now frames.old frames.new result }
+    requires runs { under C.Constants consts.now RunsOver arena.now frames.old (record { instruction = fetched.local op n; end = end }) }
+    ensures { under C.Constants consts.now ActsAtOnce (record { instruction = fetched.local op n; end = end }) arena.now frames.old frames.new result }
 {
     match op {
-        NumberOp::LoadFast => load_short(frames, arena, consts, n, end),
-        NumberOp::LoadFastN => load_long(frames, arena, consts, n, end),
-        NumberOp::StoreFast => done(store_fast(frames, arena, consts, n, end)),
-        NumberOp::StoreFastN => done(store_fast_n(frames, arena, consts, n, end)),
-        NumberOp::DeleteFast
-        | NumberOp::BuildTuple
-        | NumberOp::BuildList
-        | NumberOp::BuildMap
-        | NumberOp::UnpackSequence
-        | NumberOp::MakeFunction
-        | NumberOp::MakeFunctionDefargs
-        | NumberOp::CallFunction
-        | NumberOp::CallMethod => None,
+        LocalOp::LoadFast => load_short(frames, arena, consts, n, end),
+        LocalOp::LoadFastN => load_long(frames, arena, consts, n, end),
+        LocalOp::StoreFast => done(store_fast(frames, arena, consts, n, end)),
+        LocalOp::StoreFastN => done(store_fast_n(frames, arena, consts, n, end)),
+        LocalOp::DeleteFast => None,
     }
 }

@@ -1,6 +1,6 @@
-//! Names of modules that are looked up, and texts.
+//! Names of modules that are looked up.
 
-ghost use Rattle.state_values.specs.vm_fetching.declared.instruction.Instruction.TheVariants as fetched;
+ghost use Rattle.state_values.specs.vm_fetching.Instructions as fetched;
 ghost use Rattle.state_values.specs.prim_assignments.prim_faults.Sights.{under};
 ghost use Rattle.state_values.specs.vm_fetching.declared.operations.NameOp.TheVariants as name_ops;
 ghost use Rattle.state_values.specs.vm_states.Acting.{RunsOver};
@@ -8,7 +8,7 @@ ghost use Rattle.vm_at_once.specs.AtOnce.{ActsAtOnce};
 
 use crate::doing::done;
 use arena_heap::{Arena, Constants, StrNo};
-use state_values::{NameOp, acting_law, load_text};
+use state_values::{NameOp, acting_law};
 use vm_frames::Frames;
 
 /// LOAD_NAME.
@@ -20,9 +20,9 @@ fn load_name<C: Constants>(
     name: StrNo,
     end: u32,
 ) -> Option<u64>
-    requires runs { under C.Constants consts.now RunsOver arena.now frames.old (record { instruction = fetched.Name name_ops.LoadName name; end = end }) }
+    requires runs { under C.Constants consts.now RunsOver arena.now frames.old (record { instruction = fetched.name name_ops.LoadName name; end = end }) }
     ensures { under C.Constants consts.now ActsAtOnce (record {
-      instruction = fetched.Name name_ops.LoadName name;
+      instruction = fetched.name name_ops.LoadName name;
       end = end;
     }) arena.now frames.old frames.new result }
 {
@@ -39,9 +39,9 @@ fn load_global<C: Constants>(
     name: StrNo,
     end: u32,
 ) -> Option<u64>
-    requires runs { under C.Constants consts.now RunsOver arena.now frames.old (record { instruction = fetched.Name name_ops.LoadGlobal name; end = end }) }
+    requires runs { under C.Constants consts.now RunsOver arena.now frames.old (record { instruction = fetched.name name_ops.LoadGlobal name; end = end }) }
     ensures { under C.Constants consts.now ActsAtOnce (record {
-      instruction = fetched.Name name_ops.LoadGlobal name;
+      instruction = fetched.name name_ops.LoadGlobal name;
       end = end;
     }) arena.now frames.old frames.new result }
 {
@@ -49,31 +49,22 @@ fn load_global<C: Constants>(
     done(frame_values::load_name(frames, arena, consts, name, end))
 }
 
-/// A text that is loaded, or what has a name of the running call's module.
+/// An operation on a name of the running call's module: one that is looked up is carried out.
 #[inline(always)]
 pub(crate) fn name_at_once<C: Constants>(
     frames: &mut Frames,
     arena: &Arena,
     consts: &C,
     op: NameOp,
-    text: StrNo,
+    name: StrNo,
     end: u32,
 ) -> Option<u64>
-    requires runs { under C.Constants consts.now RunsOver arena.now frames.old (record { instruction = fetched.Name op text; end = end }) }
-    ensures { under C.Constants consts.now ActsAtOnce (record { instruction = fetched.Name op text; end = end }) arena.now frames.old frames.new result }
+    requires runs { under C.Constants consts.now RunsOver arena.now frames.old (record { instruction = fetched.name op name; end = end }) }
+    ensures { under C.Constants consts.now ActsAtOnce (record { instruction = fetched.name op name; end = end }) arena.now frames.old frames.new result }
 {
     match op {
-        NameOp::LoadConstString => done(load_text(frames, arena, consts, text, end)),
-        NameOp::LoadName => load_name(frames, arena, consts, text, end),
-        NameOp::LoadGlobal => load_global(frames, arena, consts, text, end),
-        NameOp::StoreName
-        | NameOp::StoreGlobal
-        | NameOp::DeleteName
-        | NameOp::DeleteGlobal
-        | NameOp::LoadAttr
-        | NameOp::LoadMethod
-        | NameOp::StoreAttr
-        | NameOp::ImportName
-        | NameOp::ImportFrom => None,
+        NameOp::LoadName => load_name(frames, arena, consts, name, end),
+        NameOp::LoadGlobal => load_global(frames, arena, consts, name, end),
+        NameOp::StoreName | NameOp::StoreGlobal | NameOp::DeleteName | NameOp::DeleteGlobal => None,
     }
 }

@@ -5,7 +5,7 @@ ghost use Rattle.state_values.specs.prim_assignments.arena_heap.declared.value.V
 ghost use Rattle.state_values.specs.prim_assignments.prim_faults.Sights.{under};
 ghost use Rattle.state_values.specs.vm_frames.Calls.{OfRunning, on_running};
 ghost use Rattle.state_values.specs.frame_values.Slots.{HasValue, with_value};
-ghost use Rattle.state_values.specs.vm_fetching.declared.instruction.Instruction.TheVariants as fetched;
+ghost use Rattle.state_values.specs.vm_fetching.Instructions as fetched;
 ghost use Rattle.state_values.specs.vm_states.Acting.{RunsOver};
 ghost use Rattle.vm_at_once.specs.AtOnce.{ActsAtOnce};
 ghost use Rattle.vm_at_once.specs.Numbers.{IsAnswer};
@@ -75,8 +75,8 @@ pub(crate) fn binary_at_once<C: Constants>(
     number: u8,
     end: u32,
 ) -> Option<u64>
-    requires runs { under C.Constants _consts.now RunsOver _arena.now frames.old (record { instruction = fetched.Binary number; end = end }) }
-    ensures { under C.Constants _consts.now ActsAtOnce (record { instruction = fetched.Binary number; end = end }) _arena.now frames.old frames.new result }
+    requires runs { under C.Constants _consts.now RunsOver _arena.now frames.old (record { instruction = fetched.binary number; end = end }) }
+    ensures { under C.Constants _consts.now ActsAtOnce (record { instruction = fetched.binary number; end = end }) _arena.now frames.old frames.new result }
 {
     acting_law();
     tops_law();

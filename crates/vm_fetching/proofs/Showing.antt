@@ -11,7 +11,7 @@ use Rattle.frame_moves.specs.bc_ops.declared.listing.Target.{Target}
 use Rattle.frame_moves.specs.bc_ops.declared.listing.Target.TheVariants.{Position, Offset}
 use Rattle.frame_moves.specs.bc_ops.declared.listing.Item.TheVariants as items
 use Rattle.frame_moves.specs.bc_ops.Code.{TakesOffset}
-use Rattle.frame_moves.specs.bc_ops.Listing.{target}
+use Rattle.frame_moves.specs.bc_ops.Listing.{item, target}
 use Rattle.frame_moves.specs.bc_ops.Signed.{IsSmall}
 use Rattle.frame_moves.specs.bc_ops.Table.{code_of, form_of}
 use Rattle.bc_rows.specs.bc_flow.Code.{item_locals, IsOutside}
@@ -22,7 +22,7 @@ use Rattle.frame_moves.specs.arena_heap.declared.value.ConstNo.{ConstNo}
 use Rattle.frame_moves.specs.arena_objects.Iterables.{or_nothing}
 use Rattle.bc_rows.specs.mpy_tree.Raw.{Module}
 use Rattle.bc_rows.specs.mpy_tree.File.{IsModule}
-use Rattle.bc_rows.specs.mpy_tree.Resolved.{plain, named, resolved_instr, name_at}
+use Rattle.bc_rows.specs.mpy_tree.Resolved.{plain, named, resolved, resolved_instr, name_at}
 use Rattle.bc_rows.specs.mpy_tree.Values.{value_of}
 use Rattle.bc_rows.specs.bc_verify.declared.fault.Rule.TheVariants as rules
 use Rattle.bc_rows.specs.bc_library.Constants.{object_value, text_at}
@@ -33,57 +33,58 @@ use Rattle.bc_rows.specs.declared.row.Row.{Row}
 use Rattle.frame_moves.specs.prim_walks.Plain as plains
 use Rattle.frame_moves.specs.Shown.{Tables, text_of}
 use Rattle.frame_moves.specs.Shown as stepping
-use Rattle.vm_fetching.specs.declared.operations.PlainOp.{PlainOp}
-use Rattle.vm_fetching.specs.declared.operations.NumberOp.{NumberOp}
-use Rattle.vm_fetching.specs.declared.operations.NumberOp.TheVariants as numbers
-use Rattle.vm_fetching.specs.declared.operations.NameOp.{NameOp}
-use Rattle.vm_fetching.specs.declared.operations.JumpOp.{JumpOp}
+use Rattle.vm_fetching.specs.declared.operations.LocalOp.{LocalOp}
+use Rattle.vm_fetching.specs.declared.operations.LocalOp.TheVariants as local_ops
+use Rattle.vm_fetching.specs.declared.operations.BuildOp.{BuildOp}
+use Rattle.vm_fetching.specs.declared.operations.BuildOp.TheVariants as build_ops
+use Rattle.vm_fetching.specs.declared.operations.MakeOp.{MakeOp}
+use Rattle.vm_fetching.specs.declared.operations.MakeOp.TheVariants as make_ops
+use Rattle.vm_fetching.specs.declared.operations.CallOp.{CallOp}
+use Rattle.vm_fetching.specs.declared.operations.CallOp.TheVariants as call_ops
 use Rattle.vm_fetching.specs.declared.instruction.Instruction.{Instruction}
-use Rattle.vm_fetching.specs.declared.instruction.Instruction.TheVariants as fetched
-use Rattle.vm_fetching.specs.Operations.{plain_op, number_op, name_op, jump_op}
-use Rattle.vm_fetching.specs.Numbered.{IsNumbered, number, object}
+use Rattle.vm_fetching.specs.declared.instruction.Action.{Action}
+use Rattle.vm_fetching.specs.declared.instruction.Action.TheVariants as actions
+use Rattle.vm_fetching.specs.declared.instruction.Step.{Step}
+use Rattle.vm_fetching.specs.declared.instruction.Step.TheVariants as steps
+use Rattle.vm_fetching.specs.Instructions as fetched
+use Rattle.vm_fetching.specs.Operations.{move_op, item_op, leave_op, local_op, build_op, make_op, call_op, name_op, attribute_op, test_op, handler_op}
+use Rattle.vm_fetching.specs.Numbered.{IsNumbered, local, build, make, call, object}
+use Rattle.vm_fetching.specs.Families.{IsJumping, IsNamed, IsWhole}
 use Rattle.vm_fetching.specs.Fetches.{AreOf, IsVerifiedRow}
-use Rattle.vm_fetching.specs.Shows.{NumberIsWithin, IsPooled, Shows}
+use Rattle.vm_fetching.specs.Shows.{Shows}
 use Rattle.vm_fetching.proofs.Constants.{plain_object, object_there, at_index}
 use Rattle.vm_fetching.proofs.Kept.{Kept, kept, unbroken, unless}
 use Rattle.vm_fetching.proofs.Texts as texts
 
--- a number of the pool is one
-pooled_number : (s : StrNo) → IsPooled s → (n : ℕ) × (s ≡ strs.Pool n)
-pooled_number (strs.Pool n) h = (n, refl)
-pooled_number (strs.Object c) h = absurd h
-
 -- an operation with a number is no other operation
-number_item : (m : Module) (o : NumberOp) (n : ℕ) → resolved_instr m (instrs.Num (number_op o) n) ≡ plain (instrs.Num (number_op o) n)
-number_item m numbers.LoadFast n = refl
-number_item m numbers.LoadFastN n = refl
-number_item m numbers.StoreFast n = refl
-number_item m numbers.StoreFastN n = refl
-number_item m numbers.DeleteFast n = refl
-number_item m numbers.BuildTuple n = refl
-number_item m numbers.BuildList n = refl
-number_item m numbers.BuildMap n = refl
-number_item m numbers.UnpackSequence n = refl
-number_item m numbers.MakeFunction n = refl
-number_item m numbers.MakeFunctionDefargs n = refl
-number_item m numbers.CallFunction n = refl
-number_item m numbers.CallMethod n = refl
+local_item : (m : Module) (o : LocalOp) (n : ℕ) → resolved_instr m (instrs.Num (local_op o) n) ≡ plain (instrs.Num (local_op o) n)
+local_item m local_ops.LoadFast n = refl
+local_item m local_ops.LoadFastN n = refl
+local_item m local_ops.StoreFast n = refl
+local_item m local_ops.StoreFastN n = refl
+local_item m local_ops.DeleteFast n = refl
 
-number_fits : (o : NumberOp) (n locals : ℕ) → item_locals (items.Plain (instrs.Num (number_op o) n)) ≤ locals → NumberIsWithin locals o n
+build_item : (m : Module) (o : BuildOp) (n : ℕ) → resolved_instr m (instrs.Num (build_op o) n) ≡ plain (instrs.Num (build_op o) n)
+build_item m build_ops.BuildTuple n = refl
+build_item m build_ops.BuildList n = refl
+build_item m build_ops.BuildMap n = refl
+build_item m build_ops.UnpackSequence n = refl
+
+make_item : (m : Module) (o : MakeOp) (n : ℕ) → resolved_instr m (instrs.Num (make_op o) n) ≡ plain (instrs.Num (make_op o) n)
+make_item m make_ops.MakeFunction n = refl
+make_item m make_ops.MakeFunctionDefargs n = refl
+
+call_item : (m : Module) (o : CallOp) (n : ℕ) → resolved_instr m (instrs.Num (call_op o) n) ≡ plain (instrs.Num (call_op o) n)
+call_item m call_ops.CallFunction n = refl
+call_item m call_ops.CallMethod n = refl
+
+local_fits : (o : LocalOp) (n locals : ℕ) → item_locals (items.Plain (instrs.Num (local_op o) n)) ≤ locals → n < locals
 unfolding item_locals
-number_fits numbers.LoadFast n locals le = omega (arith, le)
-number_fits numbers.LoadFastN n locals le = omega (arith, le)
-number_fits numbers.StoreFast n locals le = omega (arith, le)
-number_fits numbers.StoreFastN n locals le = omega (arith, le)
-number_fits numbers.DeleteFast n locals le = omega (arith, le)
-number_fits numbers.BuildTuple n locals le = tt
-number_fits numbers.BuildList n locals le = tt
-number_fits numbers.BuildMap n locals le = tt
-number_fits numbers.UnpackSequence n locals le = tt
-number_fits numbers.MakeFunction n locals le = tt
-number_fits numbers.MakeFunctionDefargs n locals le = tt
-number_fits numbers.CallFunction n locals le = tt
-number_fits numbers.CallMethod n locals le = tt
+local_fits local_ops.LoadFast n locals le = omega (arith, le)
+local_fits local_ops.LoadFastN n locals le = omega (arith, le)
+local_fits local_ops.StoreFast n locals le = omega (arith, le)
+local_fits local_ops.StoreFastN n locals le = omega (arith, le)
+local_fits local_ops.DeleteFast n locals le = omega (arith, le)
 
 pub jump_form : (op : Op) (wide : Bool) (offset : ℤ) (form : Form) → form_of (code_of op) ≡ form → TakesOffset form op wide offset → (signed : Bool) × (form_of (code_of op) ≡ forms.Offset op signed)
 jump_form op wide offset (forms.Offset o signed) e t = (signed, e ∙ ap (λ z. forms.Offset z signed) t.0)
@@ -143,37 +144,114 @@ module _ (shelf : Shelf) (i : ℕ) (row : Row) (v : IsVerifiedRow shelf i row) (
     abbrev S : Instr → Instruction → Type 0
     S instr shown = Shows shelf m tables row l end instr shown
 
-    pub shows_plain : (op : Op) (o : PlainOp) → plain_op o ≡ op → S (instrs.Plain op) (fetched.Plain o)
-    shows_plain op o e = record { item_is = ap (λ z. machine.Plain (instrs.Plain z)) (sym e); target = tt; local = tt; text = tt; constant = tt }
+    its_plain : (o op : Op) → o ≡ op → machine.item_of (length l.items) (plain (instrs.Plain op)) ≡ machine.Plain (instrs.Plain o)
+    its_plain o op e = ap (λ z. machine.Plain (instrs.Plain z)) (sym e)
 
-    pub shows_int : (z : ℤ) → IsSmall z → S (instrs.Int z) (fetched.Int z)
+    pub shows_plain : (op : Op) (result : Action) → IsWhole op result → S (instrs.Plain op) (fetched.acts result)
+    shows_plain op (actions.Stays (steps.Move o)) e = record { item_is = its_plain (move_op o) op e; target = tt; local = tt; text = tt; constant = tt }
+    shows_plain op (actions.Stays (steps.Item o)) e = record { item_is = its_plain (item_op o) op e; target = tt; local = tt; text = tt; constant = tt }
+    shows_plain op (actions.Stays steps.Iterate) e = record { item_is = its_plain ops.GetIterStack op e; target = tt; local = tt; text = tt; constant = tt }
+    shows_plain op (actions.Leaves o) e = record { item_is = its_plain (leave_op o) op e; target = tt; local = tt; text = tt; constant = tt }
+    shows_plain op actions.Finishes e = record { item_is = its_plain ops.EndFinally op e; target = tt; local = tt; text = tt; constant = tt }
+    shows_plain op (actions.Stays (steps.Int z)) e = absurd e
+    shows_plain op (actions.Stays (steps.Text s)) e = absurd e
+    shows_plain op (actions.Stays (steps.Object x)) e = absurd e
+    shows_plain op (actions.Stays (steps.Local o j)) e = absurd e
+    shows_plain op (actions.Stays (steps.Build o j)) e = absurd e
+    shows_plain op (actions.Stays (steps.Name o s)) e = absurd e
+    shows_plain op (actions.Stays (steps.Attribute o s)) e = absurd e
+    shows_plain op (actions.Stays (steps.Unary j)) e = absurd e
+    shows_plain op (actions.Stays (steps.Jump to)) e = absurd e
+    shows_plain op (actions.Stays (steps.Test o to)) e = absurd e
+    shows_plain op (actions.Stays (steps.Handle o to)) e = absurd e
+    shows_plain op (actions.Stays (steps.ForIter to)) e = absurd e
+    shows_plain op (actions.Stays (steps.Unwind to byte)) e = absurd e
+    shows_plain op (actions.Makes o n) e = absurd e
+    shows_plain op (actions.Imports n) e = absurd e
+
+    pub shows_int : (z : ℤ) → IsSmall z → S (instrs.Int z) (fetched.int z)
     shows_int z small = record { item_is = refl; target = tt; local = tt; text = tt; constant = small }
 
-    pub shows_unary : (n : ℕ) → S (instrs.Unary n) (fetched.Unary n)
+    pub shows_unary : (n : ℕ) → S (instrs.Unary n) (fetched.unary n)
     shows_unary n = record { item_is = refl; target = tt; local = tt; text = tt; constant = tt }
 
-    pub shows_binary : (n : ℕ) → S (instrs.Binary n) (fetched.Binary n)
+    pub shows_binary : (n : ℕ) → S (instrs.Binary n) (fetched.binary n)
     shows_binary n = record { item_is = refl; target = tt; local = tt; text = tt; constant = tt }
 
-    pub shows_name : (op : Op) (o : NameOp) (n : ℕ) (s : StrNo) → name_op o ≡ op → text_at shelf s ≡ table_text shelf i n → IsPooled s → Reads l at (instrs.Name op n) end → S (instrs.Name op n) (fetched.Name o s)
-    shows_name op o n s e same pooled r =
-        let t = texts.text_there m n is_module (name_within op n r) in
-        let text : text_at shelf s ≡ Some t.0 = same ∙ (texts.same_text shelf i m n there ∙ t.1) in
-        let shown_text : text_of tables s ≡ t.0 = ap (λ (f : StrNo → Option (List ℕ)). or_nothing (f s)) of.texts ∙ ap or_nothing text in
-        record {
-          item_is = ap (λ x. machine.item_of (length l.items) (unwrap_or (option_map (named op) x) (plain (instrs.Name op n)))) t.1
-              ∙ (ap (λ z. machine.Names z t.0) (sym e) ∙ ap (machine.Names (name_op o)) (sym shown_text));
-          target = tt;
-          local = tt;
-          text = let p = pooled_number s pooled in (p.0, p.1, ap is_some text);
-          constant = tt;
-        }
+    -- a text of the pool, and the item that names it
+    its_text : (n k : ℕ) → text_at shelf (strs.Pool k) ≡ table_text shelf i n → n < length m.qstrs → (t : List ℕ) × (name_at m n ≡ Some t) × (text_at shelf (strs.Pool k) ≡ Some t)
+    its_text n k same lt =
+        let t = texts.text_there m n is_module lt in
+        (t.0, t.1, same ∙ (texts.same_text shelf i m n there ∙ t.1))
+
+    its_name : (o op : Op) (n k : ℕ) → o ≡ op → text_at shelf (strs.Pool k) ≡ table_text shelf i n → Reads l at (instrs.Name op n) end
+        → machine.item_of (length l.items) (resolved m (item l.offsets end (instrs.Name op n))) ≡ machine.Names o (text_of tables (strs.Pool k))
+    its_name o op n k e same r =
+        let t = its_text n k same (name_within op n r) in
+        let shown_text : text_of tables (strs.Pool k) ≡ t.0 = ap (λ (f : StrNo → Option (List ℕ)). or_nothing (f (strs.Pool k))) of.texts ∙ ap or_nothing t.2 in
+        ap (λ x. machine.item_of (length l.items) (unwrap_or (option_map (named op) x) (plain (instrs.Name op n)))) t.1
+        ∙ (ap (λ z. machine.Names z t.0) (sym e) ∙ ap (machine.Names o) (sym shown_text))
+
+    its_there : (op : Op) (n k : ℕ) → text_at shelf (strs.Pool k) ≡ table_text shelf i n → Reads l at (instrs.Name op n) end → IsSome (text_at shelf (strs.Pool k))
+    its_there op n k same r = ap is_some (its_text n k same (name_within op n r)).2
+
+    pub shows_name : (op : Op) (n k : ℕ) (result : Action) → IsNamed op k result → text_at shelf (strs.Pool k) ≡ table_text shelf i n → Reads l at (instrs.Name op n) end → S (instrs.Name op n) (fetched.acts result)
+    shows_name op n k (actions.Stays (steps.Text s)) e same r = record {
+      item_is = its_name ops.LoadConstString op n k e.0 same r ∙ ap (λ (z : StrNo). machine.Names ops.LoadConstString (text_of tables z)) (sym e.1);
+      target = tt;
+      local = tt;
+      text = (k, e.1, ap (λ (z : StrNo). is_some (text_at shelf z)) e.1 ∙ its_there op n k same r);
+      constant = tt;
+    }
+    shows_name op n k (actions.Stays (steps.Name o s)) e same r = record {
+      item_is = its_name (name_op o) op n k e.0 same r ∙ ap (λ (z : StrNo). machine.Names (name_op o) (text_of tables z)) (sym e.1);
+      target = tt;
+      local = tt;
+      text = (k, e.1, ap (λ (z : StrNo). is_some (text_at shelf z)) e.1 ∙ its_there op n k same r);
+      constant = tt;
+    }
+    shows_name op n k (actions.Stays (steps.Attribute o s)) e same r = record {
+      item_is = its_name (attribute_op o) op n k e.0 same r ∙ ap (λ (z : StrNo). machine.Names (attribute_op o) (text_of tables z)) (sym e.1);
+      target = tt;
+      local = tt;
+      text = (k, e.1, ap (λ (z : StrNo). is_some (text_at shelf z)) e.1 ∙ its_there op n k same r);
+      constant = tt;
+    }
+    shows_name op n k (actions.Imports j) e same r = record {
+      item_is = its_name ops.ImportName op n k e.0 same r ∙ ap (λ (z : ℕ). machine.Names ops.ImportName (text_of tables (strs.Pool z))) (sym e.1);
+      target = tt;
+      local = tt;
+      text = ap (λ (z : ℕ). is_some (text_at shelf (strs.Pool z))) e.1 ∙ its_there op n k same r;
+      constant = tt;
+    }
+    shows_name op n k actions.Finishes e same r = absurd e
+    shows_name op n k (actions.Stays (steps.Move o)) e same r = absurd e
+    shows_name op n k (actions.Stays (steps.Int z)) e same r = absurd e
+    shows_name op n k (actions.Stays (steps.Object x)) e same r = absurd e
+    shows_name op n k (actions.Stays (steps.Local o j)) e same r = absurd e
+    shows_name op n k (actions.Stays (steps.Item o)) e same r = absurd e
+    shows_name op n k (actions.Stays (steps.Build o j)) e same r = absurd e
+    shows_name op n k (actions.Stays (steps.Unary j)) e same r = absurd e
+    shows_name op n k (actions.Stays (steps.Jump to)) e same r = absurd e
+    shows_name op n k (actions.Stays (steps.Test o to)) e same r = absurd e
+    shows_name op n k (actions.Stays (steps.Handle o to)) e same r = absurd e
+    shows_name op n k (actions.Stays steps.Iterate) e same r = absurd e
+    shows_name op n k (actions.Stays (steps.ForIter to)) e same r = absurd e
+    shows_name op n k (actions.Stays (steps.Unwind to byte)) e same r = absurd e
+    shows_name op n k (actions.Leaves o) e same r = absurd e
+    shows_name op n k (actions.Makes o j) e same r = absurd e
 
     pub shows_number : (op : Op) (n : ℕ) (result : Instruction) → IsNumbered shelf i n op result → Reads l at (instrs.Num op n) end → S (instrs.Num op n) result
-    shows_number op n result (number o) r =
+    shows_number op n result (local o) r =
         let k : Kept m row l = its_kept in
-        let le = k.locals_fit (position_in l.offsets at) (items.Plain (instrs.Num (number_op o) n)) r.is in
-        record { item_is = ap (machine.item_of (length l.items)) (number_item m o n); target = tt; local = number_fits o n row.locals le; text = tt; constant = tt }
+        let le = k.locals_fit (position_in l.offsets at) (items.Plain (instrs.Num (local_op o) n)) r.is in
+        record { item_is = ap (machine.item_of (length l.items)) (local_item m o n); target = tt; local = local_fits o n row.locals le; text = tt; constant = tt }
+    shows_number op n result (build o) r =
+        record { item_is = ap (machine.item_of (length l.items)) (build_item m o n); target = tt; local = tt; text = tt; constant = tt }
+    shows_number op n result (make o) r =
+        record { item_is = ap (machine.item_of (length l.items)) (make_item m o n); target = tt; local = tt; text = tt; constant = tt }
+    shows_number op n result (call o) r =
+        record { item_is = ap (machine.item_of (length l.items)) (call_item m o n); target = tt; local = tt; text = tt; constant = tt }
     shows_number op n result (object x e) r =
         let c = at_index m.objects n (object_within n r) in
         let value : stepping.value_of tables x ≡ value_of c.0 =
@@ -188,17 +266,56 @@ module _ (shelf : Shelf) (i : ℕ) (row : Row) (v : IsVerifiedRow shelf i row) (
           constant = (i, n, e);
         }
 
-    pub shows_jump : (op : Op) (o : JumpOp) (offset : ℤ) (wide : Bool) (to q : ℕ) → jump_op o ≡ op → target l.offsets 0 (pos end +ℤ offset) ≡ Position q → Starts l.offsets to × (position_in l.offsets to ≡ q) → S (instrs.Jump op offset wide) (fetched.Jump o to)
-    shows_jump op o offset wide to q e place lands =
-        record {
-          item_is = ap (λ z. machine.Jumps op (machine.position_of (length l.items) z)) place ∙ (ap (λ z. machine.Jumps z q) (sym e) ∙ ap (machine.Jumps (jump_op o)) (sym lands.1));
-          target = lands.0;
-          local = tt;
-          text = tt;
-          constant = tt;
-        }
+    its_jump : (o op : Op) (offset : ℤ) (wide : Bool) (t to q : ℕ) → o ≡ op → t ≡ to → target l.offsets 0 (pos end +ℤ offset) ≡ Position q → position_in l.offsets to ≡ q
+        → machine.item_of (length l.items) (resolved m (item l.offsets end (instrs.Jump op offset wide))) ≡ machine.Jumps o (position_in l.offsets t)
+    its_jump o op offset wide t to q e same place lands =
+        ap (λ z. machine.Jumps op (machine.position_of (length l.items) z)) place
+        ∙ (ap (λ z. machine.Jumps z q) (sym e) ∙ (ap (machine.Jumps o) (sym lands) ∙ ap (λ (z : ℕ). machine.Jumps o (position_in l.offsets z)) (sym same)))
 
-    pub shows_unwind : (offset : ℤ) (wide : Bool) (byte to q : ℕ) → target l.offsets 0 (pos (end - 1) +ℤ offset) ≡ Position q → Starts l.offsets to × (position_in l.offsets to ≡ q) → S (instrs.Unwind offset wide byte) (fetched.Unwind to byte)
+    pub shows_jump : (op : Op) (result : Step) (offset : ℤ) (wide : Bool) (to q : ℕ) → IsJumping op to result → target l.offsets 0 (pos end +ℤ offset) ≡ Position q → Starts l.offsets to × (position_in l.offsets to ≡ q)
+        → S (instrs.Jump op offset wide) (fetched.stays result)
+    shows_jump op (steps.Jump t) offset wide to q e place lands = record {
+      item_is = its_jump ops.Jump op offset wide t to q e.0 e.1 place lands.1;
+      target = subst (Starts l.offsets) (sym e.1) lands.0;
+      local = tt;
+      text = tt;
+      constant = tt;
+    }
+    shows_jump op (steps.Test o t) offset wide to q e place lands = record {
+      item_is = its_jump (test_op o) op offset wide t to q e.0 e.1 place lands.1;
+      target = subst (Starts l.offsets) (sym e.1) lands.0;
+      local = tt;
+      text = tt;
+      constant = tt;
+    }
+    shows_jump op (steps.Handle o t) offset wide to q e place lands = record {
+      item_is = its_jump (handler_op o) op offset wide t to q e.0 e.1 place lands.1;
+      target = subst (Starts l.offsets) (sym e.1) lands.0;
+      local = tt;
+      text = tt;
+      constant = tt;
+    }
+    shows_jump op (steps.ForIter t) offset wide to q e place lands = record {
+      item_is = its_jump ops.ForIter op offset wide t to q e.0 e.1 place lands.1;
+      target = subst (Starts l.offsets) (sym e.1) lands.0;
+      local = tt;
+      text = tt;
+      constant = tt;
+    }
+    shows_jump op (steps.Move o) offset wide to q e place lands = absurd e
+    shows_jump op (steps.Int z) offset wide to q e place lands = absurd e
+    shows_jump op (steps.Text s) offset wide to q e place lands = absurd e
+    shows_jump op (steps.Object x) offset wide to q e place lands = absurd e
+    shows_jump op (steps.Local o j) offset wide to q e place lands = absurd e
+    shows_jump op (steps.Item o) offset wide to q e place lands = absurd e
+    shows_jump op (steps.Build o j) offset wide to q e place lands = absurd e
+    shows_jump op (steps.Name o s) offset wide to q e place lands = absurd e
+    shows_jump op (steps.Attribute o s) offset wide to q e place lands = absurd e
+    shows_jump op (steps.Unary j) offset wide to q e place lands = absurd e
+    shows_jump op steps.Iterate offset wide to q e place lands = absurd e
+    shows_jump op (steps.Unwind t byte) offset wide to q e place lands = absurd e
+
+    pub shows_unwind : (offset : ℤ) (wide : Bool) (byte to q : ℕ) → target l.offsets 0 (pos (end - 1) +ℤ offset) ≡ Position q → Starts l.offsets to × (position_in l.offsets to ≡ q) → S (instrs.Unwind offset wide byte) (fetched.unwind to byte)
     shows_unwind offset wide byte to q place lands =
         record {
           item_is = ap (λ z. machine.Unwinds (machine.position_of (length l.items) z) byte) place ∙ ap (λ z. machine.Unwinds z byte) (sym lands.1);

@@ -1,6 +1,7 @@
 -- What is fetched, as the machine's items.
 use Rattle.std.specs.Prelude.{◌≡◌, ℕ, ◌<◌, List, length, Some, IsSome}
 use Rattle.frame_moves.specs.bc_ops.declared.instr.Instr.{Instr}
+use Rattle.frame_moves.specs.bc_ops.declared.instr.Op.TheVariants as ops
 use Rattle.frame_moves.specs.bc_ops.declared.instr.Instr.TheVariants as instrs
 use Rattle.frame_moves.specs.bc_ops.Listing.{item}
 use Rattle.frame_moves.specs.bc_ops.Signed.{IsSmall}
@@ -15,94 +16,80 @@ use Rattle.frame_moves.specs.bc_machine.Library as machine
 use Rattle.frame_moves.specs.bc_machine.Library.{Item}
 use Rattle.bc_rows.specs.declared.row.Row.{Row}
 use Rattle.frame_moves.specs.Shown.{Tables, text_of, value_of}
-use Rattle.vm_fetching.specs.declared.operations.NumberOp.{NumberOp}
-use Rattle.vm_fetching.specs.declared.operations.NumberOp.TheVariants as numbers
 use Rattle.vm_fetching.specs.declared.instruction.Instruction.{Instruction}
-use Rattle.vm_fetching.specs.declared.instruction.Instruction.TheVariants as fetched
-use Rattle.vm_fetching.specs.Operations.{plain_op, number_op, name_op, jump_op}
+use Rattle.vm_fetching.specs.declared.instruction.Instruction.TheVariants as instructions
+use Rattle.vm_fetching.specs.declared.instruction.Action.{Action}
+use Rattle.vm_fetching.specs.declared.instruction.Action.TheVariants as actions
+use Rattle.vm_fetching.specs.declared.instruction.Step.{Step}
+use Rattle.vm_fetching.specs.declared.instruction.Step.TheVariants as steps
+use Rattle.vm_fetching.specs.Operations.{move_op, item_op, leave_op, local_op, build_op, make_op, call_op, name_op, attribute_op, test_op, handler_op}
 
 -- the machine's item of what is fetched, where instructions start at these offsets
 module _ (tables : Tables) (starts : List ℕ) where
-  -- the item of what was fetched
+  -- of what stays in the running call
+  abbrev pub item_of_step : Step → Item
+  item_of_step (steps.Move op) = machine.Plain (instrs.Plain (move_op op))
+  item_of_step (steps.Int z) = machine.Plain (instrs.Int z)
+  item_of_step (steps.Text text) = machine.Names ops.LoadConstString (text_of tables text)
+  item_of_step (steps.Object v) = machine.Loads (value_of tables v)
+  item_of_step (steps.Local op n) = machine.Plain (instrs.Num (local_op op) n)
+  item_of_step (steps.Item op) = machine.Plain (instrs.Plain (item_op op))
+  item_of_step (steps.Build op n) = machine.Plain (instrs.Num (build_op op) n)
+  item_of_step (steps.Name op text) = machine.Names (name_op op) (text_of tables text)
+  item_of_step (steps.Attribute op text) = machine.Names (attribute_op op) (text_of tables text)
+  item_of_step (steps.Unary n) = machine.Plain (instrs.Unary n)
+  item_of_step (steps.Jump target) = machine.Jumps ops.Jump (position_in starts target)
+  item_of_step (steps.Test op target) = machine.Jumps (test_op op) (position_in starts target)
+  item_of_step (steps.Handle op target) = machine.Jumps (handler_op op) (position_in starts target)
+  item_of_step steps.Iterate = machine.Plain (instrs.Plain ops.GetIterStack)
+  item_of_step (steps.ForIter target) = machine.Jumps ops.ForIter (position_in starts target)
+  item_of_step (steps.Unwind target byte) = machine.Unwinds (position_in starts target) byte
+
+  -- of what has no visits
+  abbrev pub item_of_action : Action → Item
+  item_of_action (actions.Stays step) = item_of_step step
+  item_of_action (actions.Leaves op) = machine.Plain (instrs.Plain (leave_op op))
+  item_of_action actions.Finishes = machine.Plain (instrs.Plain ops.EndFinally)
+  item_of_action (actions.Makes op n) = machine.Plain (instrs.Num (make_op op) n)
+  item_of_action (actions.Imports n) = machine.Names ops.ImportName (text_of tables (strs.Pool n))
+
+  -- of all
   abbrev pub item_of_fetched : Instruction → Item
-  item_of_fetched (fetched.Plain op) = machine.Plain (instrs.Plain (plain_op op))
-  item_of_fetched (fetched.Number op n) = machine.Plain (instrs.Num (number_op op) n)
-  item_of_fetched (fetched.Int z) = machine.Plain (instrs.Int z)
-  item_of_fetched (fetched.Unary n) = machine.Plain (instrs.Unary n)
-  item_of_fetched (fetched.Binary n) = machine.Plain (instrs.Binary n)
-  item_of_fetched (fetched.Name op text) = machine.Names (name_op op) (text_of tables text)
-  item_of_fetched (fetched.Object v) = machine.Loads (value_of tables v)
-  item_of_fetched (fetched.Jump op target) = machine.Jumps (jump_op op) (position_in starts target)
-  item_of_fetched (fetched.Unwind target byte) = machine.Unwinds (position_in starts target) byte
+  item_of_fetched (instructions.Acts action) = item_of_action action
+  item_of_fetched (instructions.Binary n) = machine.Plain (instrs.Binary n)
+  item_of_fetched (instructions.Calls op n) = machine.Plain (instrs.Num (call_op op) n)
 
 -- an instruction starts at the offset that it jumps to
 abbrev pub TargetStarts : List ℕ → Instruction → Type 0
-TargetStarts starts (fetched.Jump op target) = Starts starts target
-TargetStarts starts (fetched.Unwind target byte) = Starts starts target
-TargetStarts starts (fetched.Plain op) = Unit {0}
-TargetStarts starts (fetched.Number op n) = Unit {0}
-TargetStarts starts (fetched.Int z) = Unit {0}
-TargetStarts starts (fetched.Unary n) = Unit {0}
-TargetStarts starts (fetched.Binary n) = Unit {0}
-TargetStarts starts (fetched.Name op text) = Unit {0}
-TargetStarts starts (fetched.Object v) = Unit {0}
-
--- the local with the number is one of `locals`, where the operation has the number of one
-abbrev pub NumberIsWithin : (locals : ℕ) → NumberOp → ℕ → Type 0
-NumberIsWithin locals numbers.LoadFast n = n < locals
-NumberIsWithin locals numbers.LoadFastN n = n < locals
-NumberIsWithin locals numbers.StoreFast n = n < locals
-NumberIsWithin locals numbers.StoreFastN n = n < locals
-NumberIsWithin locals numbers.DeleteFast n = n < locals
-NumberIsWithin locals numbers.BuildTuple n = Unit {0}
-NumberIsWithin locals numbers.BuildList n = Unit {0}
-NumberIsWithin locals numbers.BuildMap n = Unit {0}
-NumberIsWithin locals numbers.UnpackSequence n = Unit {0}
-NumberIsWithin locals numbers.MakeFunction n = Unit {0}
-NumberIsWithin locals numbers.MakeFunctionDefargs n = Unit {0}
-NumberIsWithin locals numbers.CallFunction n = Unit {0}
-NumberIsWithin locals numbers.CallMethod n = Unit {0}
+TargetStarts starts (instructions.Acts (actions.Stays (steps.Jump target))) = Starts starts target
+TargetStarts starts (instructions.Acts (actions.Stays (steps.Test op target))) = Starts starts target
+TargetStarts starts (instructions.Acts (actions.Stays (steps.Handle op target))) = Starts starts target
+TargetStarts starts (instructions.Acts (actions.Stays (steps.ForIter target))) = Starts starts target
+TargetStarts starts (instructions.Acts (actions.Stays (steps.Unwind target byte))) = Starts starts target
+TargetStarts starts _ = Unit {0}
 
 -- the local that was named, if one was, is one of `locals`
 abbrev pub LocalIsWithin : (locals : ℕ) → Instruction → Type 0
-LocalIsWithin locals (fetched.Number op n) = NumberIsWithin locals op n
-LocalIsWithin locals (fetched.Plain op) = Unit {0}
-LocalIsWithin locals (fetched.Int z) = Unit {0}
-LocalIsWithin locals (fetched.Unary n) = Unit {0}
-LocalIsWithin locals (fetched.Binary n) = Unit {0}
-LocalIsWithin locals (fetched.Name op text) = Unit {0}
-LocalIsWithin locals (fetched.Object v) = Unit {0}
-LocalIsWithin locals (fetched.Jump op target) = Unit {0}
-LocalIsWithin locals (fetched.Unwind target byte) = Unit {0}
+LocalIsWithin locals (instructions.Acts (actions.Stays (steps.Local op n))) = n < locals
+LocalIsWithin locals _ = Unit {0}
 
--- a number of the library's pool
-abbrev pub IsPooled : StrNo → Type 0
-IsPooled (strs.Pool n) = Unit {0}
-IsPooled (strs.Object c) = ⊥
+-- the text is one of the library's pool
+abbrev pub IsPooled : Shelf → StrNo → Type 0
+IsPooled shelf text = (n : ℕ) × (text ≡ strs.Pool n) × IsSome (text_at shelf text)
 
 -- the text that it names is one of the library's pool
 abbrev pub TextIsThere : Shelf → Instruction → Type 0
-TextIsThere shelf (fetched.Name op text) = (n : ℕ) × (text ≡ strs.Pool n) × IsSome (text_at shelf text)
-TextIsThere shelf (fetched.Plain op) = Unit {0}
-TextIsThere shelf (fetched.Number op n) = Unit {0}
-TextIsThere shelf (fetched.Int z) = Unit {0}
-TextIsThere shelf (fetched.Unary n) = Unit {0}
-TextIsThere shelf (fetched.Binary n) = Unit {0}
-TextIsThere shelf (fetched.Object v) = Unit {0}
-TextIsThere shelf (fetched.Jump op target) = Unit {0}
-TextIsThere shelf (fetched.Unwind target byte) = Unit {0}
+TextIsThere shelf (instructions.Acts (actions.Stays (steps.Text text))) = IsPooled shelf text
+TextIsThere shelf (instructions.Acts (actions.Stays (steps.Name op text))) = IsPooled shelf text
+TextIsThere shelf (instructions.Acts (actions.Stays (steps.Attribute op text))) = IsPooled shelf text
+TextIsThere shelf (instructions.Acts (actions.Imports n)) = IsSome (text_at shelf (strs.Pool n))
+TextIsThere shelf _ = Unit {0}
 
 -- the object that it loads is one of a module of the library, and the integer is small
 abbrev pub ConstantIsThere : Shelf → Instruction → Type 0
-ConstantIsThere shelf (fetched.Object v) = (i : ℕ) × (n : ℕ) × (object_value shelf i n ≡ Some v)
-ConstantIsThere shelf (fetched.Int z) = IsSmall z
-ConstantIsThere shelf (fetched.Plain op) = Unit {0}
-ConstantIsThere shelf (fetched.Number op n) = Unit {0}
-ConstantIsThere shelf (fetched.Unary n) = Unit {0}
-ConstantIsThere shelf (fetched.Binary n) = Unit {0}
-ConstantIsThere shelf (fetched.Name op text) = Unit {0}
-ConstantIsThere shelf (fetched.Jump op target) = Unit {0}
-ConstantIsThere shelf (fetched.Unwind target byte) = Unit {0}
+ConstantIsThere shelf (instructions.Acts (actions.Stays (steps.Object v))) = (i : ℕ) × (n : ℕ) × (object_value shelf i n ≡ Some v)
+ConstantIsThere shelf (instructions.Acts (actions.Stays (steps.Int z))) = IsSmall z
+ConstantIsThere shelf _ = Unit {0}
 
 -- the instruction of a list that ends at the offset, with the numbers of the library
 pub record Shows (shelf : Shelf) (m : Module) (tables : Tables) (row : Row) (l : CodeList) (end : ℕ) (instr : Instr) (shown : Instruction) : Type 0 where

@@ -14,9 +14,9 @@ ghost use Rattle.vm_fetching.specs.Fetches.{AreOf, IsVerifiedRow, Fetches};
 ghost use Rattle.vm_fetching.specs.Numbered.{IsNumbered};
 ghost use Rattle.vm_fetching.specs.Shows.{Shows};
 
-use crate::instruction::{Fetched, Instruction};
+use crate::instruction::{Action, Fetched, Instruction, Step};
 use crate::looking::{object_of, text_of};
-use crate::operations::{jump_op, name_op, number_op, plain_op};
+use crate::operations::{BuildOp, CallOp, LocalOp, MakeOp, jumping, named, plain};
 use bc_labels::jump_target;
 use bc_ops::{Instr, Op, decode_at};
 use bc_rows::{Library, Row};
@@ -36,16 +36,34 @@ fn read_at(bytes: &[u8], at: u32) -> (Instr, u32)
     (instr, end as u32)
 }
 
-/// An operation with a number, or the object that has it.
+/// An operation with a number, by what carries it out, or the object that has the number.
 #[inline(always)]
 fn numbered(library: &Library, module_number: u32, op: Op, n: u32) -> Instruction
     requires form { TakesNumber (form_of (code_of op)) op n }
     requires there { op ≡ Op.LoadConstObj → IsSome (object_value library.now module_number n) }
     ensures { IsNumbered library.now module_number n op result }
 {
-    match number_op(op) {
-        Some(op) => Instruction::Number(op, n),
-        None => Instruction::Object(object_of(library, module_number, n)),
+    match op {
+        Op::LoadFast => Instruction::Acts(Action::Stays(Step::Local(LocalOp::LoadFast, n))),
+        Op::LoadFastN => Instruction::Acts(Action::Stays(Step::Local(LocalOp::LoadFastN, n))),
+        Op::StoreFast => Instruction::Acts(Action::Stays(Step::Local(LocalOp::StoreFast, n))),
+        Op::StoreFastN => Instruction::Acts(Action::Stays(Step::Local(LocalOp::StoreFastN, n))),
+        Op::DeleteFast => Instruction::Acts(Action::Stays(Step::Local(LocalOp::DeleteFast, n))),
+        Op::BuildTuple => Instruction::Acts(Action::Stays(Step::Build(BuildOp::BuildTuple, n))),
+        Op::BuildList => Instruction::Acts(Action::Stays(Step::Build(BuildOp::BuildList, n))),
+        Op::BuildMap => Instruction::Acts(Action::Stays(Step::Build(BuildOp::BuildMap, n))),
+        Op::UnpackSequence => Instruction::Acts(Action::Stays(Step::Build(
+            BuildOp::UnpackSequence,
+            n,
+        ))),
+        Op::MakeFunction => Instruction::Acts(Action::Makes(MakeOp::MakeFunction, n)),
+        Op::MakeFunctionDefargs => Instruction::Acts(Action::Makes(MakeOp::MakeFunctionDefargs, n)),
+        Op::CallFunction => Instruction::Calls(CallOp::CallFunction, n),
+        Op::CallMethod => Instruction::Calls(CallOp::CallMethod, n),
+        _ => {
+            let v = object_of(library, module_number, n);
+            Instruction::Acts(Action::Stays(Step::Object(v)))
+        }
     }
 }
 
@@ -67,24 +85,30 @@ fn shown(
         → Shows library.now m tables row.now l end instr result }
 {
     match instr {
-        Instr::Plain(op) => Instruction::Plain(plain_op(op)),
-        Instr::Name(op, n) => Instruction::Name(name_op(op), text_of(library, module_number, n)),
+        Instr::Plain(op) => Instruction::Acts(plain(op)),
+        Instr::Name(op, n) => {
+            let text = text_of(library, module_number, n);
+            Instruction::Acts(named(op, text))
+        }
         Instr::Num(op, n) => numbered(library, module_number, op, n),
-        Instr::Int(n) => Instruction::Int(n),
+        Instr::Int(n) => Instruction::Acts(Action::Stays(Step::Int(n))),
         Instr::Jump {
             op,
             offset,
             wide: _,
-        } => Instruction::Jump(jump_op(op), jump_target(end, offset)),
+        } => {
+            let target = jump_target(end, offset);
+            Instruction::Acts(Action::Stays(jumping(op, target)))
+        }
         Instr::Unwind {
             offset,
             wide: _,
             byte,
-        } => Instruction::Unwind {
-            target: jump_target(end - 1, offset),
-            byte,
-        },
-        Instr::Unary(n) => Instruction::Unary(n),
+        } => {
+            let target = jump_target(end - 1, offset);
+            Instruction::Acts(Action::Stays(Step::Unwind { target, byte }))
+        }
+        Instr::Unary(n) => Instruction::Acts(Action::Stays(Step::Unary(n))),
         Instr::Binary(n) => Instruction::Binary(n),
     }
 }

@@ -10,7 +10,10 @@ mod operations;
 
 pub use bc_rows::{Row, Rows, rows_law};
 pub use fetching::fetch;
-pub use instruction::{Fetched, Instruction};
+pub use instruction::{Action, Fetched, Instruction, Step};
 pub use law::step_law;
 pub use lines::line_of;
-pub use operations::{JumpOp, NameOp, NumberOp, PlainOp};
+pub use operations::{
+    AttributeOp, BuildOp, CallOp, HandlerOp, ItemOp, LeaveOp, LocalOp, MakeOp, MoveOp, NameOp,
+    TestOp,
+};

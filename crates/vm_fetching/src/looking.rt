@@ -3,22 +3,21 @@
 ghost use Rattle.std.specs.Prelude.{◌≡◌, Some, IsSome};
 ghost use Rattle.bc_rows.specs.bc_library.Constants.{object_value, text_at};
 ghost use Rattle.bc_rows.specs.bc_library.Shelf.{entry_at, table_text};
-ghost use Rattle.vm_fetching.specs.Shows.{IsPooled};
+ghost use Rattle.frame_moves.specs.arena_heap.declared.value.StrNo.TheVariants as strs;
 
-use arena_heap::{StrNo, Value};
+use arena_heap::Value;
 use bc_rows::Library;
 
-/// The text of the module's table that has the number.
+/// The number in the pool of the text of the module's table that has the number.
 #[inline(always)]
-pub(crate) fn text_of(library: &Library, module_number: u32, n: u32) -> StrNo
+pub(crate) fn text_of(library: &Library, module_number: u32, n: u32) -> u32
     requires { IsSome (entry_at library.now module_number n) }
-    ensures text { text_at library.now result ≡ table_text library.now module_number n }
-    ensures pooled { IsPooled result }
+    ensures { text_at library.now (strs.Pool result) ≡ table_text library.now module_number n }
 {
     let Some(text) = library.text_number(module_number, n) else {
         unreachable!();
     };
-    StrNo::Pool(text)
+    text
 }
 
 /// The value of the object of the module's table that has the number.

@@ -25,12 +25,11 @@ use Rattle.state_calls.specs.frame_moves.Shown.{view_of, value_of, IsTop}
 use Rattle.state_calls.specs.frame_exits.declared.causes.Cause.{Cause}
 use Rattle.state_calls.specs.frame_exits.declared.causes.Cause.TheVariants as causes
 use Rattle.state_calls.specs.frame_exits.Causes.{cause_slot}
-use Rattle.state_calls.specs.vm_fetching.declared.operations.PlainOp.TheVariants as plain_ops
 use Rattle.state_calls.specs.vm_states.Means.{Program, Means}
 use Rattle.state_calls.specs.vm_states.Ready.{IsReady}
 use Rattle.state_calls.specs.vm_states.State.{IsKnownSlot, IsKnownCall, IsState}
 use Rattle.state_exits.specs.Keeping.{TargetStarts, KeepsCause}
-use Rattle.state_exits.specs.Running.{fetched_plain}
+use Rattle.state_exits.specs.Running.{fetched_finish}
 use Rattle.vm_kept.specs.Kept.{KeepCalls, HoldsKept}
 use Rattle.vm_kept.proofs.Causes as kept
 
@@ -68,7 +67,7 @@ no_cause entries x (tops.exception k) v r j = v (At k) refl
 no_cause entries x (tops.returned u) v r j = r u refl
 no_cause entries x (tops.jump target count it few) v r j = j target count it refl
 
-module _ (p : Program) (objects : Objects Value ℕ) (means : Means p) (row : Row) (end : ℕ) (s : Calls) (state : IsState p objects s) (r : IsReady p s row (fetched_plain plain_ops.EndFinally end)) (holds : HoldsKept p objects s) where
+module _ (p : Program) (objects : Objects Value ℕ) (means : Means p) (row : Row) (end : ℕ) (s : Calls) (state : IsState p objects s) (r : IsReady p s row (fetched_finish end)) (holds : HoldsKept p objects s) where
   abbrev c : Call
   c = r.first
 

@@ -33,46 +33,35 @@ use Rattle.state_calls.specs.vm_frames.Calls.{Call, Calls, change_first, on_runn
 use Rattle.state_calls.specs.vm_frames.Views.{slot_of, slots_of, starts_of, position_of, frame_of}
 use Rattle.state_calls.specs.frame_moves.Shown.{IsNext, view_of, value_of, running_of}
 use Rattle.state_calls.proofs.frame_moves_lemmas.Stepping.{goes_to}
-use Rattle.state_calls.specs.vm_fetching.declared.operations.NumberOp.{NumberOp}
-use Rattle.state_calls.specs.vm_fetching.declared.operations.NumberOp.TheVariants as number_ops
-use Rattle.state_calls.specs.vm_fetching.Operations.{number_op}
+use Rattle.state_calls.specs.vm_fetching.declared.operations.CallOp.{CallOp}
+use Rattle.state_calls.specs.vm_fetching.declared.operations.CallOp.TheVariants as call_ops
+use Rattle.state_calls.specs.vm_fetching.Operations.{call_op}
 use Rattle.state_calls.specs.vm_fetching.declared.instruction.Fetched.{Fetched}
-use Rattle.state_calls.specs.vm_fetching.declared.instruction.Instruction.TheVariants as fetched
+use Rattle.state_calls.specs.vm_fetching.Instructions as fetched
 use Rattle.state_calls.specs.frame_calls.Operands.{operands_count}
 use Rattle.state_calls.specs.frame_calls.Putting.{with_value}
 use Rattle.state_calls.specs.vm_states.Means.{Program, Means}
 use Rattle.state_calls.specs.vm_states.Ready.{IsReady}
-use Rattle.state_calls.specs.Taken.{CallsValue, callee_slots}
+use Rattle.state_calls.specs.Taken.{callee_slots}
 use Rattle.vm_kept.specs.Kept.{KeepCalls, HoldsKept}
 use Rattle.vm_kept.proofs.Plain.{get_map, to_plain}
 use Rattle.vm_kept.proofs.Steps.{plain_of, first_later, kept_in}
 
-abbrev pub at_call : NumberOp → (number end : ℕ) → Fetched
-at_call op number end = record { instruction = fetched.Number op number; end = end }
+abbrev pub at_call : CallOp → (number end : ℕ) → Fetched
+at_call op number end = record { instruction = fetched.call op number; end = end }
 
 -- what a call takes: it gives one value
-record Takes (op : NumberOp) (n : ℕ) : Type 0 where
+record Takes (op : CallOp) (n : ℕ) : Type 0 where
   pub wants : List Want
-  pub action : instr_action (instrs.Num (number_op op) n) ≡ Straight wants (New kinds.Value ∷ [])
+  pub action : instr_action (instrs.Num (call_op op) n) ≡ Straight wants (New kinds.Value ∷ [])
   pub count : length wants ≡ operands_count n + callee_slots op
 
-call_takes : (op : NumberOp) (n : ℕ) → CallsValue op → Takes op n
+call_takes : (op : CallOp) (n : ℕ) → Takes op n
 unfolding instr_action op_action
-call_takes number_ops.CallFunction n h = record { wants = takes (arguments n + 1) []; action = refl; count = let e = takes-length (arguments n + 1) [] in omega (arith, e) }
-call_takes number_ops.CallMethod n h = record { wants = takes (arguments n) (wants.Method ∷ wants.Value ∷ []); action = refl; count = let e = takes-length (arguments n) (wants.Method ∷ wants.Value ∷ []) in omega (arith, e) }
-call_takes number_ops.LoadFast n h = absurd h
-call_takes number_ops.LoadFastN n h = absurd h
-call_takes number_ops.StoreFast n h = absurd h
-call_takes number_ops.StoreFastN n h = absurd h
-call_takes number_ops.DeleteFast n h = absurd h
-call_takes number_ops.BuildTuple n h = absurd h
-call_takes number_ops.BuildList n h = absurd h
-call_takes number_ops.BuildMap n h = absurd h
-call_takes number_ops.UnpackSequence n h = absurd h
-call_takes number_ops.MakeFunction n h = absurd h
-call_takes number_ops.MakeFunctionDefargs n h = absurd h
+call_takes call_ops.CallFunction n = record { wants = takes (arguments n + 1) []; action = refl; count = let e = takes-length (arguments n + 1) [] in omega (arith, e) }
+call_takes call_ops.CallMethod n = record { wants = takes (arguments n) (wants.Method ∷ wants.Value ∷ []); action = refl; count = let e = takes-length (arguments n) (wants.Method ∷ wants.Value ∷ []) in omega (arith, e) }
 
-module _ (p : Program) (means : Means p) (row : Row) (op : NumberOp) (calls : CallsValue op) (number end size : ℕ) (size_is : size ≡ operands_count number + callee_slots op) (v : Value)
+module _ (p : Program) (means : Means p) (row : Row) (op : CallOp) (number end size : ℕ) (size_is : size ≡ operands_count number + callee_slots op) (v : Value)
     (s : Calls) (r : IsReady p s row (at_call op number end)) (heap : Heap Value ℕ) where
   abbrev frame : Frame
   frame = frame_of (view_of p.tables) r.first
@@ -101,7 +90,7 @@ module _ (p : Program) (means : Means p) (row : Row) (op : NumberOp) (calls : Ca
 
   fits : StandsIn facts p.plans p.library frame → BelowIn facts p.plans p.library frame.role frames → FitsIn facts p.plans p.library (running_of p.tables 0 given world)
   fits stands below =
-      let t = call_takes op number calls in
+      let t = call_takes op number in
       let ws = t.wants in
       let same : r.code ≡ stands.code = same_Some r.code stands.code (sym r.code_is ∙ stands.code_is) in
       let line_is : slice_get stands.code.lines frame.position ≡ Some r.line = subst (λ (z : Code). slice_get z.lines frame.position ≡ Some r.line) same r.line_is in

@@ -16,9 +16,8 @@ ghost use Rattle.state_calls.specs.vm_frames.Calls.{Call, Calls, OfRunning, on_r
 ghost use Rattle.state_calls.specs.frame_moves.Shown.{running_of};
 ghost use Rattle.state_calls.specs.frame_moves.Outcomes.{world_of, stopping_of};
 ghost use Rattle.state_calls.specs.frame_exits.Ends.{with_modules};
-ghost use Rattle.state_calls.specs.vm_fetching.declared.operations.NumberOp.{NumberOp};
-ghost use Rattle.state_calls.specs.vm_fetching.declared.operations.PlainOp.TheVariants as plain_ops;
-ghost use Rattle.state_calls.specs.vm_fetching.declared.instruction.Instruction.TheVariants as fetched;
+ghost use Rattle.state_calls.specs.vm_fetching.declared.operations.CallOp.{CallOp};
+ghost use Rattle.state_calls.specs.vm_fetching.Instructions as fetched;
 ghost use Rattle.state_calls.specs.frame_calls.Operands.{operands_count};
 ghost use Rattle.state_calls.specs.frame_calls.Putting.{with_value};
 ghost use Rattle.state_calls.specs.vm_states.Means.{Program, Means};
@@ -26,8 +25,8 @@ ghost use Rattle.state_calls.specs.vm_states.Running.{IsRunning};
 ghost use Rattle.state_calls.specs.vm_states.Ready.{IsReady};
 ghost use Rattle.state_calls.specs.vm_states.State.{IsState};
 ghost use Rattle.state_exits.specs.Keeping.{KeepsCause};
-ghost use Rattle.state_exits.specs.Running.{fetched_plain, stepped_with};
-ghost use Rattle.state_calls.specs.Taken.{HasMethods, CallsValue, callee_slots};
+ghost use Rattle.state_exits.specs.Running.{fetched_finish, stepped_with};
+ghost use Rattle.state_calls.specs.Taken.{HasMethods, callee_slots};
 ghost use Rattle.vm_kept.specs.Kept.{HoldsKept};
 
 use bc_progress::known_law;
@@ -70,8 +69,8 @@ pub fn raises_law()
 
 /// With any value in the place of what a call takes, and at the next instruction, the calls keep what they kept.
 pub fn gives_law()
-    ensures { (p : Program) (s new : Calls) (row : Row) (op : NumberOp) (number end size : ℕ) (v : Value) (before behind : Objects Value ℕ) → Means p
-        → CallsValue op → IsReady p s row (record { instruction = fetched.Number op number; end = end })
+    ensures { (p : Program) (s new : Calls) (row : Row) (op : CallOp) (number end size : ℕ) (v : Value) (before behind : Objects Value ℕ) → Means p
+        → IsReady p s row (record { instruction = fetched.call op number; end = end })
         → size ≡ operands_count number + callee_slots op → HoldsKept p before s → Later before behind
         → new ≡ on_running (with_value end size v) s → HoldsKept p behind new }
 {}
@@ -79,7 +78,7 @@ pub fn gives_law()
 /// At the end of a finally a cause lies on top of the running call: None, an exception, a return, or a jump to an instruction.
 pub fn cause_law()
     ensures { (p : Program) (objects : Objects Value ℕ) (s : Calls) (row : Row) (end : ℕ) → Means p → IsState p objects s
-        → IsReady p s row (fetched_plain plain_ops.EndFinally end) → HoldsKept p objects s → KeepsCause p s }
+        → IsReady p s row (fetched_finish end) → HoldsKept p objects s → KeepsCause p s }
 {}
 
 /// An object that a look-up left on the running call lies on a method of its type.

@@ -12,9 +12,9 @@ use Rattle.vm_kept.specs.state_calls.bc_rows.declared.row.Row.{Row}
 use Rattle.vm_kept.specs.state_calls.frame_moves.Shown.{running_of}
 use Rattle.vm_kept.specs.state_calls.frame_exits.declared.ends.End.{End}
 use Rattle.vm_kept.specs.state_calls.frame_exits.Ends.{with_modules}
-use Rattle.vm_kept.specs.state_calls.vm_fetching.declared.operations.NumberOp.{NumberOp}
+use Rattle.vm_kept.specs.state_calls.vm_fetching.declared.operations.CallOp.{CallOp}
 use Rattle.vm_kept.specs.state_calls.vm_fetching.declared.instruction.Fetched.{Fetched}
-use Rattle.vm_kept.specs.state_calls.vm_fetching.declared.instruction.Instruction.TheVariants as fetched
+use Rattle.vm_kept.specs.state_calls.vm_fetching.Instructions as fetched
 use Rattle.vm_starting.specs.frame_calls.declared.calling.Invocation.{Invocation}
 use Rattle.vm_starting.specs.vm_states.Means.{Program}
 use Rattle.vm_kept.specs.state_calls.Called as called
@@ -32,10 +32,10 @@ use Rattle.vm_machine.proofs.Machines.{running, arrived, vm_paid, is_vm}
 use Rattle.vm_machine.proofs.Pays.{call_pays}
 use Rattle.vm_machine.proofs.Steps.{one_more, paid_for}
 
-abbrev pub at_call : (op : NumberOp) → (number end : ℕ) → Fetched
-at_call op number end = record { instruction = fetched.Number op number; end = end }
+abbrev pub at_call : (op : CallOp) → (number end : ℕ) → Fetched
+at_call op number end = record { instruction = fetched.call op number; end = end }
 
-module _ {S : Type 0} (told : S → Option (List ℕ)) (count : S → ℕ) (shelf : Shelf) (row : Row) (op : NumberOp) (number end : ℕ) (old : Vm) (h : HasFetched shelf old row (at_call op number end))
+module _ {S : Type 0} (told : S → Option (List ℕ)) (count : S → ℕ) (shelf : Shelf) (row : Row) (op : CallOp) (number end : ℕ) (old : Vm) (h : HasFetched shelf old row (at_call op number end))
     (call : Invocation) (taken : IsTaken shelf op number old.arena old.frames old.operands call) where
   abbrev VisitsIn : Program → PlainWorld → ℕ
   VisitsIn p w = visits p call.callee old.operands old.arena (with_modules p.tables w old.modules)

@@ -27,7 +27,6 @@ use Rattle.vm_starting.specs.Programs.{IsProgramOf}
 use Rattle.state_steps.specs.Comes.{ComesOn}
 use Rattle.vm_starting.specs.declared.opening.Vm.{Vm}
 use Rattle.vm_machine.proofs.Texts.{few_slots}
-use Rattle.state_steps.specs.Values.{value_visits}
 use Rattle.vm_machine.specs.Acting.{HasFetched, Acted}
 use Rattle.vm_machine.specs.Machine.{IsVm}
 use Rattle.vm_machine.proofs.Machines.{tells, vm_holding}
@@ -113,14 +112,3 @@ without_visits p before behind earlier later old new end r = record {
   run = r.run;
   objects = r.objects;
 }
-
-pub without_any : (shelf : Shelf) (old new : Vm) (f : Fetched) (i : Instruction) → f.instruction ≡ i → value_visits (text_at shelf) (items_at shelf) old.arena old.frames.calls i ≡ 0 → Acted shelf 0 old new
-    → Acted shelf (value_visits (text_at shelf) (items_at shelf) old.arena old.frames.calls f.instruction) old new
-without_any shelf old new f i is none a =
-    subst (λ (n : ℕ). Acted shelf n old new) (sym (ap (λ (j : Instruction). value_visits (text_at shelf) (items_at shelf) old.arena old.frames.calls j) is ∙ none)) a
-
-pub no_visits : (texts : StrNo → Option (List ℕ)) (tuples : ConstNo → Option (List Value)) (heap : Heap Value ℕ) (calls : List Call) (i j : Instruction) (most : ℕ) → i ≡ j → value_visits texts tuples heap calls j ≡ 0
-    → 0 ≡ min (value_visits texts tuples heap calls i) most
-no_visits texts tuples heap calls i j most is none =
-    let e : value_visits texts tuples heap calls i ≡ 0 = ap (value_visits texts tuples heap calls) is ∙ none in
-    omega (arith, e)

@@ -1,10 +1,13 @@
 mod AtOnce
+pub mod Begun
 mod Called
 mod Fetched
+mod Free
 mod Machines
 mod Moves
 mod Opened
-mod Pays
+mod Owed
+pub mod Pays
 mod Runs
 mod Standing
 mod Stepped

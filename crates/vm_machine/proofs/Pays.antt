@@ -28,9 +28,10 @@ use Rattle.vm_at_once.specs.state_values.Operators.{value_in, visits_over, visit
 use Rattle.vm_kept.specs.state_calls.prim_calls.Callees.{plain_callee}
 use Rattle.vm_kept.specs.state_calls.vm_fetching.declared.instruction.Fetched.{Fetched}
 use Rattle.vm_kept.specs.state_calls.vm_fetching.declared.instruction.Instruction.{Instruction}
-use Rattle.vm_kept.specs.state_calls.vm_fetching.declared.instruction.Instruction.TheVariants as fetched
-use Rattle.vm_kept.specs.state_calls.vm_fetching.declared.operations.NumberOp.{NumberOp}
-use Rattle.vm_kept.specs.state_calls.vm_fetching.Operations.{number_op}
+use Rattle.vm_kept.specs.state_calls.vm_fetching.declared.instruction.Instruction.TheVariants as instructions
+use Rattle.vm_kept.specs.state_calls.vm_fetching.Instructions as fetched
+use Rattle.vm_kept.specs.state_calls.vm_fetching.declared.operations.CallOp.{CallOp}
+use Rattle.vm_kept.specs.state_calls.vm_fetching.Operations.{call_op}
 use Rattle.vm_kept.specs.state_calls.vm_fetching.Shows.{item_of_fetched}
 use Rattle.vm_starting.specs.frame_calls.declared.calling.Invocation.{Invocation}
 use Rattle.vm_starting.specs.frame_calls.Invoking.{visits_of, calling_of, Invokes}
@@ -46,11 +47,11 @@ use Rattle.state_steps.specs.Values.{value_visits}
 use Rattle.vm_machine.proofs.Machines.{in_program}
 
 module _ (library : Library) (place : Place) (paid : ℕ) (frame : states.Frame) (frames : List states.Frame) (w : PlainWorld) where
-  unpaid : {A : Type 0} (effect : Effect A) (next : A → PlainWorld → State) → paid < effect.visits → step.does library place paid frame frames w effect next ≡ Running (suc paid) frame frames w
+  pub unpaid : {A : Type 0} (effect : Effect A) (next : A → PlainWorld → State) → paid < effect.visits → step.does library place paid frame frames w effect next ≡ Running (suc paid) frame frames w
   unpaid effect next less = ap (λ (b : Bool). step.paying library place paid frame frames w b effect next) (lt-ltb paid effect.visits less)
 
   -- a callee's visits
-  callee_pays : (below : List states.Slot) (k : plain.Callee) (args : List Val) (keys : Keys) → paid < visits_of k args keys
+  pub callee_pays : (below : List states.Slot) (k : plain.Callee) (args : List Val) (keys : Keys) → paid < visits_of k args keys
       → step.run_callee library place paid frame frames w below k args keys ≡ Running (suc paid) frame frames w
   callee_pays below (plain.Acts act) args keys less = unpaid (act args keys) (λ v. step.next library place paid frame frames w (states.Value v ∷ below)) less
   callee_pays below (plain.Runs f) args keys less = absurd (omega (arith, less))
@@ -89,7 +90,7 @@ module _ (t : Tables) (library : Library) (place : Place) (paid : ℕ) (heap : H
   -- those of an instruction that is no call
   value_pays : (starts : List ℕ) (i : Instruction) (calls : List Call) → paid < value_visits t.texts t.tuples heap calls i
       → step_of t library place paid calls W (item_of_fetched t starts i) ≡ running_of t (suc paid) calls W
-  value_pays starts (fetched.Binary number) calls less = binary_pays number calls less
+  value_pays starts (instructions.Binary number) calls less = binary_pays number calls less
   value_pays starts i calls less = absurd (omega (arith, less))
 
 pub instruction_pays : (p : Program) (row : Row) (s : Calls) (f : Fetched) (r : IsReady p s row f) (heap : Heap Value ℕ) (paid : ℕ) (w : PlainWorld)
@@ -108,13 +109,13 @@ called_pays t library place paid heap w size k args keys (c ∷ cs) some less =
 some_calls : (calls : List Call) (c : Call) (cs : List Call) → calls ≡ c ∷ cs → 0 < length calls
 some_calls calls c cs e = let n = ap length e in omega (arith, n)
 
-pub call_pays : (shelf : Shelf) (p : Program) → IsProgramOf shelf p → (row : Row) (s : Calls) (op : NumberOp) (number end : ℕ) (r : IsReady p s row (record { instruction = fetched.Number op number; end = end }))
+pub call_pays : (shelf : Shelf) (p : Program) → IsProgramOf shelf p → (row : Row) (s : Calls) (op : CallOp) (number end : ℕ) (r : IsReady p s row (record { instruction = fetched.call op number; end = end }))
     (heap : Heap Value ℕ) (given : Given) (call : Invocation) → IsTaken shelf op number heap s given call → (paid : ℕ) (w : PlainWorld)
     → paid < visits p call.callee given heap w → stepped p paid s w heap ≡ running_of p.tables (suc paid) s.calls (world_of p.tables w heap)
 call_pays shelf p of row s op number end r heap given call taken paid w less =
     let layout : Layout = record { module_name = p.tables.module_name; starts = p.tables.starts } in
-    let invokes : Invokes p.tables (Plain (instrs.Num (number_op op) number)) call.size heap s.calls given.args given.keys call.callee =
-    in_program shelf p of (λ t u. Invokes (tables_of t u layout) (Plain (instrs.Num (number_op op) number)) call.size heap s.calls given.args given.keys call.callee) (taken.invokes layout) in
+    let invokes : Invokes p.tables (Plain (instrs.Num (call_op op) number)) call.size heap s.calls given.args given.keys call.callee =
+    in_program shelf p of (λ t u. Invokes (tables_of t u layout) (Plain (instrs.Num (call_op op) number)) call.size heap s.calls given.args given.keys call.callee) (taken.invokes layout) in
     r.steps paid (world_of p.tables w heap)
     ∙ (invokes.calls_it p.library r.place paid w
     ∙ called_pays p.tables p.library r.place paid heap w call.size (plain_callee p.tables.texts p.tables.tuples (world_of p.tables w heap) call.callee) given.args given.keys s.calls (some_calls s.calls r.first r.others r.are) less)

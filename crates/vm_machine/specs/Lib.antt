@@ -4,6 +4,6 @@ pub use Rattle.vm_kept.specs.state_calls
 pub use Rattle.vm_starting.specs as vm_starting
 pub use Rattle.vm_starting.specs.vm_states
 pub mod Acting
-pub mod Forms
+pub mod Due
 pub mod Machine
 pub mod Running

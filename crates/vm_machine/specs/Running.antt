@@ -14,8 +14,8 @@ use Rattle.vm_starting.specs.prim_outputs.Prints.{Puts}
 use Rattle.state_steps.specs.vm_frames.Calls.{Call}
 use Rattle.vm_kept.specs.state_calls.frame_moves.Shown.{running_of}
 use Rattle.vm_kept.specs.state_calls.frame_exits.Ends.{with_modules}
-use Rattle.vm_kept.specs.state_calls.vm_fetching.declared.operations.NumberOp.{NumberOp}
-use Rattle.vm_kept.specs.state_calls.vm_fetching.declared.instruction.Instruction.TheVariants as fetched
+use Rattle.vm_kept.specs.state_calls.vm_fetching.declared.operations.CallOp.{CallOp}
+use Rattle.vm_kept.specs.state_calls.vm_fetching.Instructions as fetched
 use Rattle.vm_starting.specs.frame_calls.declared.calling.Invocation.{Invocation}
 use Rattle.vm_starting.specs.frame_calls.Operands.{Given}
 use Rattle.vm_starting.specs.vm_states.Means.{Program}
@@ -34,10 +34,10 @@ pub record Outside (S : Type 0) : Type 0 where
 -- the calls stand at an instruction that calls this with these operands
 pub record StandsAtCall (p : Program) (vm : Vm) (given : Given) (call : Invocation) : Type 0 where
   pub row : Row
-  pub op : NumberOp
+  pub op : CallOp
   pub number : ℕ
   pub end : ℕ
-  pub ready : IsReady p vm.frames row (record { instruction = fetched.Number op number; end = end })
+  pub ready : IsReady p vm.frames row (record { instruction = fetched.call op number; end = end })
   pub taken : IsTaken p.shelf op number vm.arena vm.frames given call
 
 module _ {S : Type 0} (told : S → Option (List ℕ)) where

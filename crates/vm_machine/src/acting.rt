@@ -1,31 +1,26 @@
-//! Instructions that are no calls, each carried out by its form.
+//! Instructions that are no calls, each carried out by its family.
 
 ghost use Rattle.std.specs.Prelude.{◌≡◌};
 ghost use Rattle.bc_library.specs.Constants.{items_at, text_at};
-ghost use Rattle.vm_kept.specs.state_calls.vm_fetching.declared.instruction.Instruction.TheVariants as fetched_as;
-ghost use Rattle.vm_kept.specs.state_calls.vm_fetching.declared.operations.NumberOp.TheVariants as number_ops;
-ghost use Rattle.vm_kept.specs.state_calls.vm_fetching.declared.operations.PlainOp.TheVariants as plain_ops;
+ghost use Rattle.vm_kept.specs.state_calls.vm_fetching.Instructions as fetched_as;
+ghost use Rattle.vm_kept.specs.state_calls.vm_fetching.declared.operations.MakeOp.TheVariants as make_ops;
 ghost use Rattle.vm_kept.specs.state_exits.Importing.{fetched_import};
-ghost use Rattle.vm_kept.specs.state_exits.Running.{fetched_plain};
-ghost use Rattle.state_steps.specs.Leaves.{LeavesCall};
-ghost use Rattle.state_steps.specs.Values.{ActsOnValues, value_visits};
-ghost use Rattle.vm_machine.specs.Acting.{Acted, HasFetched};
-ghost use Rattle.vm_machine.specs.Forms.{HasForm, IsNoCall};
+ghost use Rattle.vm_kept.specs.state_exits.Running.{fetched_finish, fetched_leave};
+ghost use Rattle.vm_at_once.specs.state_values.Operators.{visits_binary};
+ghost use Rattle.vm_machine.specs.Acting.{Acted, HasFetched, Stepped};
 
-use crate::forms::Form;
 use arena_heap::StrNo;
 use bc_library::Library;
-use state_steps::{finish, import, leave, make, make_with, operate};
-use vm_at_once::{Fetched, PlainOp, Row, Rows};
-use vm_kept::cause_law;
+use state_steps::{finish, import, leave, make, make_with, operate, operate_binary};
+use vm_at_once::{Action, LeaveOp, MakeOp, Row, Rows, Step};
+use vm_kept::{cause_law, step_law};
 use vm_starting::{NAME, Vm};
 
-/// Carries out an instruction on values.
+/// Carries out an instruction that stays in the running call.
 #[tactic(none)]
-fn operate_on(vm: &mut Vm, library: &Library, row: &Row<'_>, fetched: Fetched)
-    requires values { ActsOnValues fetched.instruction }
-    requires fetched { HasFetched library.now vm.old row.now fetched }
-    ensures { Acted library.now (value_visits (text_at library.now) (items_at library.now) vm.old.arena vm.old.frames.calls fetched.instruction) vm.old vm.new }
+fn operate_on(vm: &mut Vm, library: &Library, row: &Row<'_>, step: Step, end: u32)
+    requires fetched { HasFetched library.now vm.old row.now (record { instruction = fetched_as.stays step; end = end }) }
+    ensures { Acted library.now 0 vm.old vm.new }
 {
     let ended = operate(
         &mut vm.frames,
@@ -35,16 +30,35 @@ fn operate_on(vm: &mut Vm, library: &Library, row: &Row<'_>, fetched: Fetched)
         &vm.names,
         &mut vm.items,
         row,
-        fetched,
+        step,
+        end,
+    );
+    vm.end = ended;
+}
+
+/// Carries out an operator over two operands.
+#[tactic(none)]
+pub(crate) fn operate_binary_on(vm: &mut Vm, library: &Library, row: &Row<'_>, number: u8, end: u32)
+    requires fetched { HasFetched library.now vm.old row.now (record { instruction = fetched_as.binary number; end = end }) }
+    ensures { Acted library.now (visits_binary (text_at library.now) (items_at library.now) vm.old.arena vm.old.frames.calls number) vm.old vm.new }
+{
+    let ended = operate_binary(
+        &mut vm.frames,
+        &mut vm.arena,
+        library,
+        &mut vm.modules,
+        &vm.names,
+        row,
+        number,
+        end,
     );
     vm.end = ended;
 }
 
 /// Carries out a return or a raise.
 #[tactic(none)]
-fn leave_on(vm: &mut Vm, library: &Library, rows: &Rows<'_>, row: &Row<'_>, op: PlainOp, end: u32)
-    requires leaves { LeavesCall op }
-    requires fetched { HasFetched library.now vm.old row.now (fetched_plain op end) }
+fn leave_on(vm: &mut Vm, library: &Library, rows: &Rows<'_>, row: &Row<'_>, op: LeaveOp, end: u32)
+    requires fetched { HasFetched library.now vm.old row.now (fetched_leave op end) }
     requires rows { rows.now ≡ library.now }
     ensures { Acted library.now 0 vm.old vm.new }
 {
@@ -66,7 +80,7 @@ fn leave_on(vm: &mut Vm, library: &Library, rows: &Rows<'_>, row: &Row<'_>, op: 
 /// Carries out the end of a finally.
 #[tactic(none)]
 fn finish_on(vm: &mut Vm, library: &Library, rows: &Rows<'_>, row: &Row<'_>, end: u32)
-    requires fetched { HasFetched library.now vm.old row.now (fetched_plain plain_ops.EndFinally end) }
+    requires fetched { HasFetched library.now vm.old row.now (fetched_finish end) }
     requires rows { rows.now ≡ library.now }
     ensures { Acted library.now 0 vm.old vm.new }
 {
@@ -88,7 +102,7 @@ fn finish_on(vm: &mut Vm, library: &Library, rows: &Rows<'_>, row: &Row<'_>, end
 /// Carries out the making of a function without defaults.
 #[tactic(none)]
 fn make_on(vm: &mut Vm, library: &Library, rows: &Rows<'_>, row: &Row<'_>, number: u32, end: u32)
-    requires fetched { HasFetched library.now vm.old row.now (record { instruction = fetched_as.Number number_ops.MakeFunction number; end = end }) }
+    requires fetched { HasFetched library.now vm.old row.now (record { instruction = fetched_as.make make_ops.MakeFunction number; end = end }) }
     requires rows { rows.now ≡ library.now }
     ensures { Acted library.now 0 vm.old vm.new }
 {
@@ -116,7 +130,7 @@ fn make_with_on(
     number: u32,
     end: u32,
 )
-    requires fetched { HasFetched library.now vm.old row.now (record { instruction = fetched_as.Number number_ops.MakeFunctionDefargs number; end = end }) }
+    requires fetched { HasFetched library.now vm.old row.now (record { instruction = fetched_as.make make_ops.MakeFunctionDefargs number; end = end }) }
     requires rows { rows.now ≡ library.now }
     ensures { Acted library.now 0 vm.old vm.new }
 {
@@ -157,29 +171,59 @@ fn import_on(vm: &mut Vm, library: &Library, rows: &Rows<'_>, row: &Row<'_>, nam
     vm.end = ended;
 }
 
-/// The instruction of this form that was fetched, which is no call, where its visits are paid. It takes no memory.
-pub(crate) fn act(
+/// Carries out the making of a function.
+#[tactic(none)]
+fn make_by(
     vm: &mut Vm,
     library: &Library,
     rows: &Rows<'_>,
     row: &Row<'_>,
-    fetched: Fetched,
-    form: Form,
+    op: MakeOp,
+    number: u32,
+    end: u32,
 )
-    requires form { HasForm fetched.instruction form }
-    requires no_call { IsNoCall form }
-    requires fetched { HasFetched library.now vm.old row.now fetched }
+    requires fetched { HasFetched library.now vm.old row.now (record { instruction = fetched_as.make op number; end = end }) }
     requires rows { rows.now ≡ library.now }
-    ensures { Acted library.now (value_visits (text_at library.now) (items_at library.now) vm.old.arena vm.old.frames.calls fetched.instruction) vm.old vm.new }
+    ensures { Acted library.now 0 vm.old vm.new }
 {
-    let end = fetched.end;
-    match form {
-        Form::Operates => operate_on(vm, library, row, fetched),
-        Form::Leaves(op) => leave_on(vm, library, rows, row, op, end),
-        Form::Finishes => finish_on(vm, library, rows, row, end),
-        Form::Makes(number) => make_on(vm, library, rows, row, number, end),
-        Form::MakesWith(number) => make_with_on(vm, library, rows, row, number, end),
-        Form::Imports(name) => import_on(vm, library, rows, row, name, end),
-        Form::Calls(_, _) => unreachable!(),
+    match op {
+        MakeOp::MakeFunction => make_on(vm, library, rows, row, number, end),
+        MakeOp::MakeFunctionDefargs => make_with_on(vm, library, rows, row, number, end),
     }
+}
+
+/// The instruction without visits that was fetched. It takes no memory.
+#[tactic(none)]
+fn act(vm: &mut Vm, library: &Library, rows: &Rows<'_>, row: &Row<'_>, action: Action, end: u32)
+    requires fetched { HasFetched library.now vm.old row.now (record { instruction = fetched_as.acts action; end = end }) }
+    requires rows { rows.now ≡ library.now }
+    ensures { Acted library.now 0 vm.old vm.new }
+{
+    match action {
+        Action::Stays(step) => operate_on(vm, library, row, step, end),
+        Action::Leaves(op) => leave_on(vm, library, rows, row, op, end),
+        Action::Finishes => finish_on(vm, library, rows, row, end),
+        Action::Makes(op, number) => make_by(vm, library, rows, row, op, number, end),
+        Action::Imports(name) => import_on(vm, library, rows, row, name, end),
+    }
+}
+
+/// The step of an instruction without visits.
+#[tactic(none)]
+pub(crate) fn step_act(
+    vm: &mut Vm,
+    library: &Library,
+    rows: &Rows<'_>,
+    row: &Row<'_>,
+    action: Action,
+    end: u32,
+)
+    requires fetched { HasFetched library.now vm.old row.now (record { instruction = fetched_as.acts action; end = end }) }
+    requires rows { rows.now ≡ library.now }
+    ensures stepped { Stepped library.now 1 vm.old vm.new }
+    ensures unpaid { vm.new.paid ≡ 0 }
+{
+    step_law();
+    act(vm, library, rows, row, action, end);
+    vm.paid = 0;
 }

@@ -6,11 +6,10 @@ ghost use Rattle.vm_starting.specs.Kept.{AreFetched};
 ghost use Rattle.vm_machine.specs.Acting.{AreFetchedIn, HasFetched, Stepped};
 ghost use Rattle.vm_machine.specs.Machine.{IsVm};
 
-use crate::acting::act;
+use crate::acting::step_act;
 use crate::fetching::{fetch_in, fetch_kept, row_of};
-use crate::forms::unpaid_form;
 use bc_library::Library;
-use vm_at_once::{Fetched, Rows, act_at_once, store_at_once};
+use vm_at_once::{Fetched, Instruction, Rows, act_at_once, store_at_once};
 use vm_kept::{registered_law, step_law};
 use vm_starting::{Cache, Places, Vm, program_law};
 
@@ -24,15 +23,14 @@ fn act_unpaid(vm: &mut Vm, library: &Library, rows: &Rows<'_>, fetched: Fetched)
     ensures unpaid { vm.new.paid ≡ 0 }
     ensures few { result ≤ 1 }
 {
-    step_law();
-    match unpaid_form(fetched.instruction) {
-        Some(form) => {
+    match fetched.instruction {
+        Instruction::Acts(action) => {
             let row = row_of(vm, library, rows, fetched);
-            act(vm, library, rows, row, fetched, form);
-            vm.paid = 0;
+            step_act(vm, library, rows, row, action, fetched.end);
             1
         }
-        None => 0,
+        Instruction::Binary(_number) => 0,
+        Instruction::Calls(_op, _number) => 0,
     }
 }
 

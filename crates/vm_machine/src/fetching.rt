@@ -11,7 +11,11 @@ use vm_at_once::{Fetched, Row, Rows, fetch};
 use vm_starting::{Cache, Places, Vm, cache_law, names_law, program_law, ready_law, row_law};
 
 /// What is fetched for the running call, and the row of its code. It takes no memory.
-fn fetch_at<'b, 'a>(vm: &Vm, library: &Library, rows: &'b Rows<'a>) -> (&'b Row<'a>, Fetched)
+pub(crate) fn fetch_at<'b, 'a>(
+    vm: &Vm,
+    library: &Library,
+    rows: &'b Rows<'a>,
+) -> (&'b Row<'a>, Fetched)
     requires vm { IsVm library.now vm.now }
     requires rows { rows.now ≡ library.now }
     requires goes_on { vm.now.end ≡ None }

@@ -3,14 +3,16 @@
 
 mod acting;
 mod at_once;
+mod due;
 mod fetching;
-mod forms;
 mod names;
 mod opening;
 mod paying;
 mod running;
 mod stepping;
 
+pub use due::visits_due;
+pub use names::module_names;
 pub use opening::{open, used};
 pub use running::run;
 pub use vm_at_once::{End, Rows};

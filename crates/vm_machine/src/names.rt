@@ -10,7 +10,7 @@ use std::alloc::Global;
 use vm_at_once::ModuleName;
 
 /// The names of the library's modules, in the order of their numbers.
-pub(crate) fn module_names(alloc: Global, library: &Library) -> Result<Vec<ModuleName>, NoMemory>
+pub fn module_names(alloc: Global, library: &Library) -> Result<Vec<ModuleName>, NoMemory>
     ensures { IfOk result (λ names. AreTitles library.now names.items) }
 {
     library_law(library);

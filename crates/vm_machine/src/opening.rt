@@ -7,7 +7,7 @@ ghost use Rattle.state_steps.specs.vm_frames.bc_machine.Library.{Name};
 ghost use Rattle.state_steps.specs.vm_frames.bc_machine.Machine.{start};
 ghost use Rattle.state_steps.specs.vm_frames.py_effects.Ends.{new_world};
 ghost use Rattle.vm_starting.specs.vm_states.Means.{Program};
-ghost use Rattle.vm_starting.specs.Programs.{IsProgramOf, IsRunnable};
+ghost use Rattle.vm_starting.specs.Programs.{IsProgramOf};
 ghost use Rattle.vm_machine.specs.Machine.{IsVm, machine_of};
 
 use crate::names::module_names;
@@ -16,7 +16,7 @@ use mpy_base::{NoMemory, Room};
 use std::alloc::Global;
 use vm_at_once::Rows;
 use vm_kept::{begins_law, registered_law};
-use vm_starting::Vm;
+use vm_starting::{Vm, runnable_law};
 
 /// A run of the library whose main module has this number, in an arena of this room. It takes all its memory here. Where the main
 /// module doesn't fit, it has ended for want of room.
@@ -27,7 +27,6 @@ pub fn open(
     number: u32,
     room: Room,
 ) -> Result<Vm, NoMemory>
-    requires runnable { IsRunnable library.now }
     requires rows { rows.now ≡ library.now }
     requires there { number < length library.now.modules }
     ensures starts { IfOk result (λ vm. (p : Program) (name : Name) (ports : List PortState) → IsProgramOf library.now p → p.tables.module_name number ≡ name
@@ -38,6 +37,7 @@ pub fn open(
     registered_law();
     begins_law();
     library_law(library);
+    runnable_law(library);
     let names = module_names(alloc, library)?;
     match Vm::open(alloc, library, rows, names, number, room) {
         Ok(vm) => Ok(vm),

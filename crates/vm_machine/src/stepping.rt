@@ -3,45 +3,39 @@
 ghost use Rattle.std.specs.Prelude.{◌≡◌, ◌+◌, ◌<◌, ◌≤◌, ◌^◌, map, None, is_err};
 ghost use Rattle.mpy_io.specs.Count.{Counts};
 ghost use Rattle.port_set.specs.Counts.{CountsKeep};
-ghost use Rattle.vm_kept.specs.state_calls.vm_fetching.declared.instruction.Instruction.TheVariants as fetched_as;
+ghost use Rattle.vm_kept.specs.state_calls.vm_fetching.Instructions as fetched_as;
 ghost use Rattle.vm_starting.specs.vm_states.Means.{Program};
-ghost use Rattle.vm_kept.specs.state_calls.Taken.{CallsValue, IsTaken};
+ghost use Rattle.vm_kept.specs.state_calls.Taken.{IsTaken};
 ghost use Rattle.vm_kept.specs.Kept.{HoldsKept};
 ghost use Rattle.vm_starting.specs.Programs.{IsProgramOf};
 ghost use Rattle.vm_starting.specs.Kept.{AreFetched};
 ghost use Rattle.vm_machine.specs.Acting.{Called, HasFetched, Stepped};
-ghost use Rattle.vm_machine.specs.Forms.{HasForm, IsNoCall};
 ghost use Rattle.vm_machine.specs.Machine.{IsVm};
 ghost use Rattle.vm_machine.specs.Running.{Advances};
 
-use crate::acting::act;
+use crate::acting::{operate_binary_on, step_act};
 use crate::at_once::run_at_once;
 use crate::fetching::{fetch_kept, row_of};
-use crate::forms::{Form, call_in, form_of};
-use crate::paying::{steps_before, visits_of};
+use crate::paying::steps_before;
 use bc_library::Library;
 use mpy_io::{Failed, Port, Sink};
 use port_set::PortSet;
 use state_steps::call;
-use vm_at_once::{Fetched, NumberOp, Row, Rows};
+use vm_at_once::{CallOp, Fetched, Instruction, Row, Rows, visits_binary_op};
 use vm_kept::{gives_law, methods_law, raises_law, step_law, take_call, visits_call_on};
 use vm_starting::{Cache, Invocation, Vm};
 
-/// Steps of an instruction of this form, which is no call.
+/// Steps of an operator over two operands, of which its visits take one each.
 #[tactic(none)]
-fn step_act(
+fn step_binary(
     vm: &mut Vm,
     library: &Library,
-    rows: &Rows<'_>,
     row: &Row<'_>,
-    fetched: Fetched,
-    form: Form,
+    number: u8,
+    end: u32,
     most: u64,
 ) -> u64
-    requires form { HasForm fetched.instruction form }
-    requires no_call { IsNoCall form }
-    requires fetched { HasFetched library.now vm.old row.now fetched }
-    requires rows { rows.now ≡ library.now }
+    requires fetched { HasFetched library.now vm.old row.now (record { instruction = fetched_as.binary number; end = end }) }
     requires some { 0 < most }
     requires countable { vm.old.paid + most < 2 ^ 64 }
     ensures stepped { Stepped library.now result vm.old vm.new }
@@ -51,14 +45,14 @@ fn step_act(
     step_law();
     let paid = vm.paid;
     let bound = paid + most;
-    let due = visits_of(vm, library, row, fetched, bound);
+    let due = visits_binary_op(&vm.frames, &vm.arena, library, number, end, bound);
     match steps_before(paid, due, most) {
         None => {
             vm.paid = bound;
             most
         }
         Some(before) => {
-            act(vm, library, rows, row, fetched, form);
+            operate_binary_on(vm, library, row, number, end);
             vm.paid = 0;
             let taken = before + 1;
             taken
@@ -75,13 +69,12 @@ fn make_call<S: Sink, P: Port>(
     out: &mut S,
     ports: &mut PortSet<P>,
     row: &Row<'_>,
-    op: NumberOp,
+    op: CallOp,
     number: u32,
     end: u32,
     invocation: Invocation,
 ) -> Result<(), Failed>
-    requires calls { CallsValue op }
-    requires fetched { HasFetched library.now vm.old row.now (record { instruction = fetched_as.Number op number; end = end }) }
+    requires fetched { HasFetched library.now vm.old row.now (record { instruction = fetched_as.call op number; end = end }) }
     requires rows { rows.now ≡ library.now }
     requires taken { IsTaken library.now op number vm.old.arena vm.old.frames vm.old.operands invocation }
     ensures kept { vm.new.end ≡ None → (p : Program) → IsProgramOf library.now p → HoldsKept p vm.new.arena.objects vm.new.frames }
@@ -127,13 +120,12 @@ fn step_call<S: Sink, P: Port>(
     out: &mut S,
     ports: &mut PortSet<P>,
     row: &Row<'_>,
-    op: NumberOp,
+    op: CallOp,
     number: u32,
     end: u32,
     most: u64,
 ) -> Result<u64, Failed>
-    requires calls { CallsValue op }
-    requires fetched { HasFetched library.now vm.old row.now (record { instruction = fetched_as.Number op number; end = end }) }
+    requires fetched { HasFetched library.now vm.old row.now (record { instruction = fetched_as.call op number; end = end }) }
     requires rows { rows.now ≡ library.now }
     requires some { 0 < most }
     requires countable { vm.old.paid + most < 2 ^ 64 }
@@ -190,21 +182,16 @@ fn step_on<S: Sink, P: Port>(
     ensures { Advances S.told S.count library.now vm.old vm.new
         (record { out = out.old; ports = map P.seen ports.old }) (record { out = out.new; ports = map P.seen ports.new }) most result }
 {
-    let form = form_of(fetched.instruction);
-    match call_in(form) {
-        Some((op, number)) => step_call(
-            vm,
-            library,
-            rows,
-            out,
-            ports,
-            row,
-            op,
-            number,
-            fetched.end,
-            most,
-        ),
-        None => Ok(step_act(vm, library, rows, row, fetched, form, most)),
+    let end = fetched.end;
+    match fetched.instruction {
+        Instruction::Acts(action) => {
+            step_act(vm, library, rows, row, action, end);
+            Ok(1)
+        }
+        Instruction::Binary(number) => Ok(step_binary(vm, library, row, number, end, most)),
+        Instruction::Calls(op, number) => {
+            step_call(vm, library, rows, out, ports, row, op, number, end, most)
+        }
     }
 }
 

@@ -17,6 +17,6 @@ pub use frame_calls::Invocation;
 pub use names::names_law;
 pub use opening::Vm;
 pub use places::Places;
-pub use shown_program::{code_law, program_law};
+pub use shown_program::{code_law, program_law, runnable_law};
 pub use starting::{MAIN, NAME, start_main};
 pub use vm_states::ready_law;

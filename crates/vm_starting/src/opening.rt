@@ -13,12 +13,12 @@ ghost use Rattle.vm_states.specs.bc_rows.Rows.{IsRow};
 ghost use Rattle.bc_progress.specs.py_effects.Ends.{new_world};
 ghost use Rattle.vm_states.specs.Means.{Program};
 ghost use Rattle.vm_states.specs.State.{IsState};
-ghost use Rattle.vm_starting.specs.Programs.{IsProgramOf, IsRunnable};
+ghost use Rattle.vm_starting.specs.Programs.{IsProgramOf};
 ghost use Rattle.vm_states.specs.frame_exits.declared.ends.End.TheVariants as ends;
 ghost use Rattle.vm_starting.specs.Opened.{HasMemory, IsBegun, IsFresh, state_in};
 ghost use Rattle.vm_starting.specs.Titles.{AreTitles};
 
-use crate::shown_program::{code_law, program_law};
+use crate::shown_program::{code_law, program_law, runnable_law};
 use crate::starting::start_main;
 use arena_heap::{Arena, Value};
 use bc_library::Library;
@@ -119,7 +119,6 @@ impl Vm {
         number: u32,
         room: Room,
     ) -> Result<Vm, NoMemory>
-        requires runnable { IsRunnable library.now }
         requires names { AreTitles library.now names.items }
         requires rows { rows.now ≡ library.now }
         requires there { number < length library.now.modules }
@@ -134,6 +133,7 @@ impl Vm {
         ensures paid { IfOk result (λ vm. vm.paid ≡ 0) }
     {
         program_law();
+        runnable_law(library);
         let (slots, entries) = greatest_of(library);
         let mut vm = take_memory(alloc, library, names, slots, entries, room)?;
         let locals = main_locals(rows, number, slots);

@@ -9,6 +9,7 @@ ghost use Rattle.vm_starting.specs.Codes.{IsCodeOf};
 ghost use Rattle.vm_starting.specs.Programs.{IsRunnable, IsProgramOf, FindsAll};
 
 use bc_labels::offsets_law;
+use bc_library::{Library, modules_law};
 use bc_ops::listing_law;
 use bc_resolved::{module_law, stored_law};
 use vm_states::rows_law;
@@ -23,6 +24,13 @@ pub fn program_law()
     stored_law();
     module_law();
     listing_law();
+}
+
+/// Each library that there is can be run.
+pub fn runnable_law(library: &Library)
+    ensures { IsRunnable library.now }
+{
+    modules_law(library);
 }
 
 /// The row of a code says what the machine's code of its numbers is.

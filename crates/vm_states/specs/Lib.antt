@@ -23,4 +23,5 @@ pub mod OnTop
 pub mod Ready
 pub mod Running
 pub mod State
+pub mod Topmost
 pub mod Tops

@@ -3,6 +3,7 @@ use Rattle.std.specs.Prelude.{◌≡◌, ℕ, ◌≤◌, List, ◌∷◌, ◌++�
 use Rattle.frame_exits.specs.mpy_base.declared.builtin.Builtin.{Builtin}
 use Rattle.frame_exits.specs.mpy_base.Val.{Val, Nil, Built, At}
 use Rattle.bc_progress.specs.bc_machine.State.{Slot, Value, Null, Object, Iter, KeptReturn, KeptJump, Entry}
+use Rattle.vm_states.specs.Topmost.{One, Two, Three}
 
 -- a value
 pub record OneValue (slots : List Slot) : Type 0 where
@@ -48,31 +49,16 @@ pub data IsDropped : Slot → Type 0 where
   iterator : (over : Val) (at part : ℕ) → IsDropped (Iter over at part)
 
 -- a slot that may be dropped: a value, or one of an iterator
-pub record OneDropped (slots : List Slot) : Type 0 where
-  pub top : Slot
-  pub below : List Slot
-  pub are : slots ≡ top ∷ below
-  pub is : IsDropped top
+abbrev pub OneDropped : List Slot → Type 0
+OneDropped = One IsDropped
 
 -- two slots, each a value or empty
-pub record TwoOperands (slots : List Slot) : Type 0 where
-  pub top : Slot
-  pub second : Slot
-  pub below : List Slot
-  pub are : slots ≡ top ∷ second ∷ below
-  pub top_is : IsOperand top
-  pub second_is : IsOperand second
+abbrev pub TwoOperands : List Slot → Type 0
+TwoOperands = Two IsOperand
 
 -- three such slots
-pub record ThreeOperands (slots : List Slot) : Type 0 where
-  pub top : Slot
-  pub second : Slot
-  pub third : Slot
-  pub below : List Slot
-  pub are : slots ≡ top ∷ second ∷ third ∷ below
-  pub top_is : IsOperand top
-  pub second_is : IsOperand second
-  pub third_is : IsOperand third
+abbrev pub ThreeOperands : List Slot → Type 0
+ThreeOperands = Three IsOperand
 
 -- an index and a container on a value that goes in, or on the empty slot
 pub record Stored (slots : List Slot) : Type 0 where

@@ -8,6 +8,7 @@ use Rattle.frame_exits.specs.vm_frames.declared.slot.Slot.TheVariants as slots
 use Rattle.frame_exits.specs.vm_frames.declared.slot.Entry.{Entry}
 use Rattle.frame_exits.specs.bc_labels.Positions.{position_in}
 use Rattle.frame_exits.specs.vm_frames.Views.{View}
+use Rattle.vm_states.specs.Topmost.{One, Two, Three}
 
 -- a value
 pub record OneValue (st : List Slot) : Type 0 where
@@ -53,31 +54,16 @@ pub data IsDropped : Slot → Type 0 where
   iterator : (over : Value) (at part : ℕ) → IsDropped (slots.Iter over at part)
 
 -- a slot that may be dropped: a value, or one of an iterator
-pub record OneDropped (st : List Slot) : Type 0 where
-  pub top : Slot
-  pub below : List Slot
-  pub are : st ≡ top ∷ below
-  pub is : IsDropped top
+abbrev pub OneDropped : List Slot → Type 0
+OneDropped = One IsDropped
 
 -- two slots, each a value or empty
-pub record TwoOperands (st : List Slot) : Type 0 where
-  pub top : Slot
-  pub second : Slot
-  pub below : List Slot
-  pub are : st ≡ top ∷ second ∷ below
-  pub top_is : IsOperand top
-  pub second_is : IsOperand second
+abbrev pub TwoOperands : List Slot → Type 0
+TwoOperands = Two IsOperand
 
 -- three such slots
-pub record ThreeOperands (st : List Slot) : Type 0 where
-  pub top : Slot
-  pub second : Slot
-  pub third : Slot
-  pub below : List Slot
-  pub are : st ≡ top ∷ second ∷ third ∷ below
-  pub top_is : IsOperand top
-  pub second_is : IsOperand second
-  pub third_is : IsOperand third
+abbrev pub ThreeOperands : List Slot → Type 0
+ThreeOperands = Three IsOperand
 
 -- an index and a container on a value that goes in, or on the empty slot
 pub record Stored (st : List Slot) : Type 0 where

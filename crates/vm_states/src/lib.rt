@@ -17,6 +17,6 @@ pub use known::known_law;
 pub use ready::{keeps_law, ready_law};
 pub use standing::{locals_law, standing_law};
 pub use vm_fetching::{
-    Fetched, Instruction, JumpOp, NameOp, NumberOp, PlainOp, Row, Rows, fetch, line_of, rows_law,
-    step_law,
+    Action, AttributeOp, BuildOp, CallOp, Fetched, HandlerOp, Instruction, ItemOp, LeaveOp,
+    LocalOp, MakeOp, MoveOp, NameOp, Row, Rows, Step, TestOp, fetch, line_of, rows_law, step_law,
 };

@@ -1,6 +1,6 @@
 use Rattle.std.proofs.Common.{◌≡◌, sym, subst}
 use Rattle.mpy_tree.specs.declared.raw.RawCode.{out-RawCode}
-use Rattle.bc_certificates.specs.bc_flow.Verified as flow
+use Rattle.bc_refusals.specs.bc_flow.Verified as flow
 use Rattle.bc_verify.specs.Body.{Says, body_of, flow_of}
 use Rattle.bc_verify.proofs.Bodies.{one_body}
 use Rattle.bc_verify.proofs.code.shapes.Goals as goal

@@ -1,77 +1,29 @@
-use Rattle.std.proofs.Common.{◌≡◌, List, ℕ, [], map, refl, sym, subst, inl}
-use Rattle.std.proofs.KnownBytes.{Appends-nil}
+use Rattle.std.proofs.Common.{map}
 use Rattle.port_set.proofs.Counting.{counts_same}
-use Rattle.library_runs.specs.declared.ending.RunEnd.{RunEnd}
-use Rattle.library_runs.specs.Reports.{said_by}
-use Rattle.library_runs.specs.Runs.{RunsAs, StandsAt, sight}
-use Rattle.vm_machine.specs.vm_starting.declared.opening.Vm.{Vm}
-use Rattle.library_runs.proofs.Ended.{end_is_said, cut_in_all, leaves, over_in_all, stands_in_all, unflushed_in_all}
+use Rattle.library_runs.specs.Runs.{sight}
+use Rattle.library_runs.proofs.Ended.{main_left, main_ran}
 use Rattle.library_runs.proofs.running.run_for.Goals as goal
 
-pub returns-in-Err-run-clause-runs : goal.returns-in-Err-run-clause-runs
-returns-in-Err-run-clause-runs g c = λ n at. (
-  [],
-  record {
-    program = c.program_law.ensures.exists c.args.library.now c.requires.runnable;
-    is_said = refl;
-    runs = cut_in_all c.output_law.ensures.starts c.output_law.ensures.runs c.put_law.ensures g.S.Sink.told c.args.library.now c.args.main n at c.args.room c.args.steps c.in-Ok-open.vm c.in-Ok-open.ensures.starts
-        (record { out = c.args.out.now; ports = map g.P.Port.seen c.args.ports.now }) (record { out = c.run.new.out; ports = map g.P.Port.seen c.run.new.ports }) g.S.Sink.count [] c.in-Err-run.ensures.failed;
-  },
-  inl (Appends-nil (g.E.Sink.told c.args.say.now), refl),
-)
-
-pub returns-in-Ok-flush-clause-runs : goal.returns-in-Ok-flush-clause-runs
-returns-in-Ok-flush-clause-runs g c = λ n at.
-    let shelf = c.args.library.now in
-    let vm = c.run.new.vm in
-    let old = sight g.S.Sink.told g.P.Port.seen c.args.out.now c.args.ports.now in
-    let new = sight g.S.Sink.told g.P.Port.seen c.flush.new.self c.run.new.ports in (
-      said_by shelf vm vm.end,
-      subst (λ (end : RunEnd). RunsAs shelf n.name c.args.room c.args.steps old new end (said_by shelf vm vm.end)) (sym c.say_end-end.ensures.end) (record {
-        program = c.program_law.ensures.exists shelf c.requires.runnable;
-        is_said = end_is_said shelf vm vm.end;
-        runs = over_in_all c.output_law.ensures.starts c.output_law.ensures.runs c.put_law.ensures g.S.Sink.told shelf c.args.main n at c.args.room c.args.steps c.in-Ok-open.vm c.in-Ok-open.ensures.starts
-            (record { out = c.args.out.now; ports = map g.P.Port.seen c.args.ports.now }) (record { out = c.run.new.out; ports = map g.P.Port.seen c.run.new.ports }) vm c.in-Ok-run.ensures.runs (g.S.Sink.told c.flush.new.self) c.flush.ensures.same;
-      }),
-      c.say_end-end.ensures.said,
-    )
-
--- the machine that is left stands where the run was stopped
-pub returns-in-Ok-flush-clause-leaves : goal.returns-in-Ok-flush-clause-leaves
-returns-in-Ok-flush-clause-leaves g c = λ n at.
-    let shelf = c.args.library.now in
-    let old = sight g.S.Sink.told g.P.Port.seen c.args.out.now c.args.ports.now in
-    let new = sight g.S.Sink.told g.P.Port.seen c.flush.new.self c.run.new.ports in
-    leaves c.run.new.vm c.say_end-end.result c.unended.result (λ (vm : Vm). StandsAt shelf n.name c.args.room c.args.steps old new vm) c.say_end-end.ensures.end c.unended.ensures
-    (stands_in_all c.output_law.ensures.starts c.output_law.ensures.runs c.put_law.ensures g.S.Sink.told shelf c.args.main n at c.args.room c.args.steps c.in-Ok-open.vm c.in-Ok-open.ensures.starts
-    (record { out = c.args.out.now; ports = map g.P.Port.seen c.args.ports.now }) (record { out = c.run.new.out; ports = map g.P.Port.seen c.run.new.ports }) c.run.new.vm c.in-Ok-run.ensures.runs (g.S.Sink.told c.flush.new.self) c.flush.ensures.same)
-
+-- the run of the machine that was opened
 pub returns-clause-runs : goal.returns-clause-runs
-returns-clause-runs g c = λ n at. (
-  [],
-  record {
-    program = c.program_law.ensures.exists c.args.library.now c.requires.runnable;
-    is_said = refl;
-    runs = unflushed_in_all c.output_law.ensures.starts c.output_law.ensures.runs c.put_law.ensures g.S.Sink.told c.args.library.now c.args.main n at c.args.room c.args.steps c.in-Ok-open.vm c.in-Ok-open.ensures.starts
-        (record { out = c.args.out.now; ports = map g.P.Port.seen c.args.ports.now }) (record { out = c.run.new.out; ports = map g.P.Port.seen c.run.new.ports }) c.run.new.vm c.in-Ok-run.ensures.runs (g.S.Sink.told c.flush.new.self) c.flush.ensures.same [];
-  },
-  inl (Appends-nil (g.E.Sink.told c.args.say.now), refl),
-)
+returns-clause-runs g c = λ n at.
+    let old = sight g.S.Sink.told g.P.Port.seen c.args.out.now c.args.ports.now in
+    let new = sight g.S.Sink.told g.P.Port.seen c.run_on.new.out c.run_on.new.ports in
+    let ran = c.run_on.ensures.runs in
+    (ran.0, main_ran c.args.library.now c.args.main n at c.args.room c.args.steps c.in-Ok-open.vm c.in-Ok-open.ensures.starts old new c.run_on.result.0 ran.0 ran.1, ran.2)
 
-pub returns-in-Err-run-clause-faults : goal.returns-in-Err-run-clause-faults
-returns-in-Err-run-clause-faults g c = c.run.ensures.faults
-
-pub returns-in-Ok-flush-clause-faults : goal.returns-in-Ok-flush-clause-faults
-returns-in-Ok-flush-clause-faults g c = c.run.ensures.faults
+pub returns-clause-leaves : goal.returns-clause-leaves
+returns-clause-leaves g c = λ n at.
+    let old = sight g.S.Sink.told g.P.Port.seen c.args.out.now c.args.ports.now in
+    let new = sight g.S.Sink.told g.P.Port.seen c.run_on.new.out c.run_on.new.ports in
+    main_left c.args.library.now c.args.main n at c.args.room c.args.steps c.in-Ok-open.vm c.in-Ok-open.ensures.starts old new c.run_on.result.0 c.run_on.result.1 c.run_on.ensures.leaves
 
 pub returns-clause-faults : goal.returns-clause-faults
-returns-clause-faults g c = c.run.ensures.faults
+returns-clause-faults g c = c.run_on.ensures.faults
 
-pub returns-in-Err-open-clause-faults : goal.returns-in-Err-open-clause-faults
-returns-in-Err-open-clause-faults g c = counts_same (map g.P.Port.seen c.args.ports.now)
-
+-- nothing began
 pub returns-in-Err-clause-faults : goal.returns-in-Err-clause-faults
 returns-in-Err-clause-faults g c = counts_same (map g.P.Port.seen c.args.ports.now)
 
-pub returns-in-Err-new-clause-faults : goal.returns-in-Err-new-clause-faults
-returns-in-Err-new-clause-faults g c = counts_same (map g.P.Port.seen c.args.ports.now)
+pub returns-in-Err-open-clause-faults : goal.returns-in-Err-open-clause-faults
+returns-in-Err-open-clause-faults g c = counts_same (map g.P.Port.seen c.args.ports.now)

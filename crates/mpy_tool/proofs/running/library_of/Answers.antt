@@ -1,7 +1,7 @@
 use Rattle.std.proofs.Common.{ℕ, List, map, string_bytes, sym, subst}
 use Rattle.mpy_words.specs.declared.order.Command.{Command}
 use Rattle.mpy_words.specs.Words.{first_name, main_name}
-use Rattle.run_commands.specs.Ready.{GoLibrary, RunLibrary}
+use Rattle.meant_commands.specs.run_commands.Ready.{GoLibrary, RunLibrary}
 use Rattle.mpy_tool.specs.Below.{library_below}
 use Rattle.mpy_tool.specs.Doing.{LibraryBy}
 use Rattle.mpy_tool.proofs.Under.{is_opened}

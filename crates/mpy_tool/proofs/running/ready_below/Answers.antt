@@ -1,7 +1,7 @@
 use Rattle.std.proofs.Common.{refl, subst}
 use Rattle.image_open.specs.image_grammar.bc_library.Shelf.{Shelf}
 use Rattle.mpy_endings.specs.declared.ending.Ending.TheVariants.{NoMemory}
-use Rattle.run_commands.specs.Ready.{RunLibrary, not_read}
+use Rattle.meant_commands.specs.run_commands.Ready.{RunLibrary, not_read}
 use Rattle.mpy_tool.proofs.running.ready_below.Goals as goal
 
 pub returns-in-Ok-clause-comes : goal.returns-in-Ok-clause-comes

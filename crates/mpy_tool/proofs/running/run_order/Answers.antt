@@ -7,11 +7,11 @@ use Rattle.mpy_endings.specs.Ending.{IsRunStatus}
 use Rattle.mpy_endings.specs.declared.ending.Ending.{Ending}
 use Rattle.mpy_endings.proofs.Statuses.{unsaved_ended}
 use Rattle.board_command.specs.command_files.Opened.{failed_in}
-use Rattle.run_commands.specs.declared.ready.Ready.{Ready}
-use Rattle.run_commands.specs.library_runs.Runs.{sight}
-use Rattle.run_commands.specs.Run.{room_of, sight_in}
-use Rattle.run_commands.specs.Save.{EndsRunTo, RunsTo, is_unwritten, place_to}
-use Rattle.run_commands.proofs.Suspending.{counts_to, ends_run_to, says_to}
+use Rattle.meant_commands.specs.run_commands.declared.ready.Ready.{Ready}
+use Rattle.meant_commands.specs.run_commands.library_runs.Runs.{sight}
+use Rattle.meant_commands.specs.run_commands.Run.{room_of, sight_in}
+use Rattle.meant_commands.specs.run_commands.Save.{EndsRunTo, RunsTo, is_unwritten, place_to}
+use Rattle.meant_commands.proofs.run_commands_lemmas.Suspending.{counts_to, ends_run_to, says_to}
 use Rattle.mpy_tool.specs.Call.{call_of, texts}
 use Rattle.mpy_tool.specs.Below.{library_below}
 use Rattle.mpy_tool.specs.Doing.{LibraryBy}

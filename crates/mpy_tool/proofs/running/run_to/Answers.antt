@@ -4,11 +4,11 @@ use Rattle.mpy_words.specs.Words.{saved_name}
 use Rattle.mpy_endings.specs.Ending.{is_folder_fault}
 use Rattle.board_command.specs.command_files.Opened.{failed_in}
 use Rattle.mpy_endings.specs.declared.ending.Ending.{Ending}
-use Rattle.run_commands.specs.declared.ready.Ready.{Ready}
-use Rattle.run_commands.specs.library_runs.Runs.{sight}
-use Rattle.run_commands.specs.Run.{Runs, room_of}
-use Rattle.run_commands.specs.Save.{RunsTo, is_unwritten}
-use Rattle.run_commands.proofs.Suspending.{or_false, runs_written}
+use Rattle.meant_commands.specs.run_commands.declared.ready.Ready.{Ready}
+use Rattle.meant_commands.specs.run_commands.library_runs.Runs.{sight}
+use Rattle.meant_commands.specs.run_commands.Run.{Runs, room_of}
+use Rattle.meant_commands.specs.run_commands.Save.{RunsTo, is_unwritten}
+use Rattle.meant_commands.proofs.run_commands_lemmas.Suspending.{or_false, runs_written}
 use Rattle.mpy_tool.proofs.running.run_to.Goals as goal
 
 pub returns-in-Some-clause-went : goal.returns-in-Some-clause-went

@@ -1,5 +1,5 @@
 use Rattle.std.proofs.Common.{[]}
-use Rattle.run_commands.specs.Run.{room_of}
+use Rattle.meant_commands.specs.run_commands.Run.{room_of}
 use Rattle.mpy_tool.specs.Call.{call_of}
 use Rattle.mpy_tool.proofs.Stressing.{stress_unsaved}
 use Rattle.mpy_tool.proofs.top.make.Goals as goal

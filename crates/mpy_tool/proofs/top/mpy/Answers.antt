@@ -1,7 +1,7 @@
 use Rattle.std.proofs.Common.{refl}
 use Rattle.mpy_endings.proofs.Statuses.{not_two, two_unsaved}
 use Rattle.mpy_tool.specs.Call.{call_of}
-use Rattle.mpy_tool.proofs.Acting.{go_ordered, check_ordered, check_as_ordered, dump_ordered, cross_ordered, merge_ordered, freeze_ordered, migrate_ordered, run_ordered, board_ordered, stress_ordered, go_means_ordered, run_means_ordered, stress_means_ordered}
+use Rattle.mpy_tool.proofs.Acting.{go_ordered, check_ordered, check_as_ordered, dump_ordered, cross_ordered, merge_ordered, freeze_ordered, migrate_ordered, run_ordered, resume_ordered, board_ordered, stress_ordered, go_means_ordered, run_means_ordered, stress_means_ordered}
 use Rattle.mpy_tool.proofs.Counting.{obeys_stay}
 use Rattle.mpy_tool.proofs.top.mpy.Goals as goal
 
@@ -49,6 +49,11 @@ pub returns-in-Ok-clause-run : goal.returns-in-Ok-clause-run
 returns-in-Ok-clause-run g c =
     let call = call_of g.F.Folder g.S.Sink g.P.Port g.E.Sink c.args.words.now c.args.outside.now c.obey.new.outside c.obey.result in
     run_ordered c.in-Ok.order call c.in-Ok.ensures.order c.obey.ensures.ended
+
+pub returns-in-Ok-clause-resume : goal.returns-in-Ok-clause-resume
+returns-in-Ok-clause-resume g c =
+    let call = call_of g.F.Folder g.S.Sink g.P.Port g.E.Sink c.args.words.now c.args.outside.now c.obey.new.outside c.obey.result in
+    resume_ordered c.in-Ok.order call c.in-Ok.ensures.order c.obey.ensures.ended
 
 pub returns-in-Ok-clause-board : goal.returns-in-Ok-clause-board
 returns-in-Ok-clause-board g c =

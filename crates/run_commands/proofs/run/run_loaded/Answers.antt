@@ -3,7 +3,6 @@ use Rattle.std.specs.Prelude.{IfOk, IfErr}
 use Rattle.std.proofs.lemmas.Option.{slice_get_within}
 use Rattle.bc_library.specs.mpy_tree.Raw.{Module}
 use Rattle.command_files.specs.image_runs.Main.{IsMainAt}
-use Rattle.library_files.specs.Ends.{HoldsModules}
 use Rattle.library_runs.specs.declared.ending.RunEnd.TheVariants as ends
 use Rattle.library_runs.specs.Runs.{sight}
 use Rattle.command_files.specs.mpy_endings.declared.ending.Ending.{Ending}
@@ -11,11 +10,6 @@ use Rattle.run_commands.specs.declared.ready.Ready.{Ready}
 use Rattle.run_commands.specs.Run.{IsUnloaded, Runs}
 use Rattle.run_commands.proofs.Running.{ran_library, not_loaded, run_over, same_sight, says_nothing, unloaded_unrun}
 use Rattle.run_commands.proofs.run.run_loaded.Goals as goal
-
-pub run_library-end-requires-clause-runnable : goal.run_library-end-requires-clause-runnable
-run_library-end-requires-clause-runnable g c =
-    let holds = subst (λ (r : Result Ready Ending). IfOk r (λ ready. HoldsModules ready.library)) c.in-Ok.is c.requires.holds in
-    record { distinct = holds.distinct; are_modules = holds.are_modules; are_verified = holds.are_verified }
 
 pub returns-in-Ok-clause-went : goal.returns-in-Ok-clause-went
 returns-in-Ok-clause-went g c =
@@ -35,8 +29,8 @@ returns-in-Err-clause-went g c =
     let Comes = λ (r : Result Ready Ending). r ≡ c.args.loaded in
     ([], not_loaded Comes c.args.room c.args.steps here here [] c.in-Err.ending (subst (λ (r : Result Ready Ending). IfErr r IsUnloaded) c.in-Err.is c.requires.unloaded) (sym c.in-Err.is) refl refl, says_nothing (g.E.Sink.told c.args.say.now) (g.E.Sink.count c.args.say.now))
 
-pub run_library-end-requires-clause-there : goal.run_library-end-requires-clause-there
-run_library-end-requires-clause-there g c =
+pub run_library-end-requires : goal.run_library-end-requires
+run_library-end-requires g c =
     let first = subst (λ (r : Result Ready Ending). IfOk r (λ ready. (m : Module) × IsMainAt ready.main ready.place m ready.library)) c.in-Ok.is c.requires.there in
     slice_get_within c.in-Ok.ready.library.modules c.in-Ok.ready.place (record { name = c.in-Ok.ready.main; held = first.0 }) first.1
 

@@ -5,7 +5,6 @@ use Rattle.mpy_io.specs.Count.{Counts}
 use Rattle.bc_library.specs.mpy_tree.Raw.{Module}
 use Rattle.bc_library.specs.Shelf.{Named}
 use Rattle.command_files.specs.image_runs.Main.{IsMainAt}
-use Rattle.library_files.specs.Ends.{HoldsModules}
 use Rattle.library_runs.specs.declared.ending.RunEnd.{RunEnd}
 use Rattle.library_runs.specs.declared.ending.RunEnd.TheVariants as ends
 use Rattle.library_runs.specs.Runs.{IsOver, RunsAs, StandsAt, is_write_fault, sight, speaks}
@@ -18,13 +17,8 @@ use Rattle.run_commands.proofs.Running.{same_sight, says_nothing}
 use Rattle.run_commands.proofs.Suspending.{ended_so, not_begun, not_unsaved, saved_quiet, was_saved}
 use Rattle.run_commands.proofs.saving.run_saving.Goals as goal
 
-pub run_for-end-requires-clause-runnable : goal.run_for-end-requires-clause-runnable
-run_for-end-requires-clause-runnable g c =
-    let holds = subst (λ (r : Result Ready Ending). IfOk r (λ ready. HoldsModules ready.library)) c.in-Ok.is c.requires.holds in
-    record { distinct = holds.distinct; are_modules = holds.are_modules; are_verified = holds.are_verified }
-
-pub run_for-end-requires-clause-there : goal.run_for-end-requires-clause-there
-run_for-end-requires-clause-there g c =
+pub run_for-end-requires : goal.run_for-end-requires
+run_for-end-requires g c =
     let first = subst (λ (r : Result Ready Ending). IfOk r (λ ready. (m : Module) × IsMainAt ready.main ready.place m ready.library)) c.in-Ok.is c.requires.there in
     slice_get_within c.in-Ok.ready.library.modules c.in-Ok.ready.place (record { name = c.in-Ok.ready.main; held = first.0 }) first.1
 

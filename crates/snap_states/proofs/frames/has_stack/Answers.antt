@@ -1,4 +1,4 @@
-use Rattle.std.proofs.Common.{◌≡◌, ◌<◌, Bool, List, Some, length, drop, get_or, sym, ap, subst, ◌∙◌, arith, rules}
+use Rattle.std.proofs.Common.{◌≡◌, ◌<◌, Some, length, drop, get_or, ap, subst, ◌∙◌, arith, rules}
 use Rattle.std.specs.Prelude.{slice_get, option_copied}
 use Rattle.bc_library.specs.bc_flow.Action.{action}
 use Rattle.bc_library.specs.bc_shapes.Views.{at_of}

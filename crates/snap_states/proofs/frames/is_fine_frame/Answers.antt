@@ -1,7 +1,6 @@
 use Rattle.std.proofs.Common.{◌≡◌, Some, None, sym, ◌∙◌}
 use Rattle.std.specs.Prelude.{option_copied}
 use Rattle.std.proofs.lemmas.Bool.{false≢true}
-use Rattle.snap_states.specs.Frames.{AreShapes}
 use Rattle.snap_states.proofs.Framing.{to_fine, from_fine}
 use Rattle.snap_states.proofs.Shaping.{shapes_once}
 use Rattle.snap_states.proofs.frames.is_fine_frame.Goals as goal

@@ -1,9 +1,8 @@
-use Rattle.std.proofs.Common.{◌≡◌, ◌+◌, ◌-◌, ◌<◌, ◌≤◌, ◌&&◌, Bool, true, false, length, drop, get_or, ap, sym, ◌∙◌, refl, arith, rules}
+use Rattle.std.proofs.Common.{◌≡◌, ◌+◌, ◌-◌, ◌<◌, ◌≤◌, ◌&&◌, Bool, true, false, length, drop, ap, sym, ◌∙◌, refl, arith, rules}
 use Rattle.std.proofs.lemmas.List.{take_rest}
 use Rattle.std.proofs.lemmas.Bool.{false≢true}
 use Rattle.bc_shapes.specs.declared.shape.Entry.{Entry}
 use Rattle.bc_shapes.proofs.Loops.{and_first}
-use Rattle.bc_flow.specs.Machine.{cut}
 use Rattle.bc_flow.specs.Verified.{at}
 use Rattle.bc_flow.specs.Views.{table_of}
 use Rattle.snap_states.specs.Stacks.{stack_as, leaves_first, leads_on, arrives}

@@ -1,4 +1,3 @@
-use Rattle.std.proofs.Common.{◌≡◌}
 use Rattle.bc_library.specs.bc_flow.Verified as flow
 use Rattle.bc_library.specs.bc_verify.Body.{flow_of}
 use Rattle.snap_states.proofs.Shaping.{row_short, row_verified, row_says, body_in}
@@ -27,4 +26,5 @@ returns c = λ m k is. record {
   says = row_says c.args.library.now m k c.args.row.now is c.in_ok-listed.listed.items.items c.in_ok-listed.listed.offsets.items c.len.result c.len.ensures c.in_ok-listed.ensures;
   holds = rw c.in-Ok.is at c.in_ok-states.ensures.holds;
   least = rw c.in-Ok.is at c.in_ok-states.ensures.least;
+  reached = rw c.in-Ok.is at c.in_ok-states.ensures.reached;
 }

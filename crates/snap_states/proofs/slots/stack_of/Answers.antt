@@ -1,4 +1,4 @@
-use Rattle.std.proofs.Common.{◌≡◌, ◌+◌, ◌-◌, ◌<◌, ◌≤◌, List, [], ◌∷◌, ◌++◌, length, drop, take, reverse, sym, ap, subst, ◌∙◌, arith, rules, length-append, length-drop}
+use Rattle.std.proofs.Common.{◌≡◌, ◌-◌, ◌<◌, ◌≤◌, List, [], ◌∷◌, ◌++◌, length, drop, take, reverse, sym, ap, subst, ◌∙◌, arith, rules, length-append, length-drop}
 use Rattle.std.proofs.lemmas.List.{take_all, drop_all, length-map}
 use Rattle.snap_states.specs.declared.slot.Slot.{Slot}
 use Rattle.snap_states.specs.Stacks.{stack_as, slot_as}

@@ -9,7 +9,7 @@ use Rattle.frame_calls.specs.prim_calls.Callees.{IsKnownCallee}
 use Rattle.frame_calls.specs.prim_calls.declared.calls.CallStop.TheVariants as calls
 use Rattle.frame_calls.specs.prim_calls.declared.callees.Callee.{Callee}
 use Rattle.frame_calls.specs.prim_calls.declared.callees.Callee.TheVariants as callees
-use Rattle.vm_states.specs.vm_fetching.declared.instruction.Instruction.TheVariants as fetched
+use Rattle.vm_states.specs.vm_fetching.Instructions as fetched
 use Rattle.frame_calls.specs.Built.{IsCalled, IsKnownCallStop}
 use Rattle.state_calls.specs.Called.{is_out, CallComes, HeapComes}
 use Rattle.state_calls.proofs.Heaps as heaps
@@ -22,7 +22,7 @@ use Rattle.state_calls.proofs.calling.call_on.Goals as goal
 
 pub act_method-requires-clause-some : goal.act_method-requires-clause-some
 act_method-requires-clause-some g c =
-    let n = c.requires.taken.size in let some = takings.some_slots c.args.op c.requires.calls in omega (arith, n, some)
+    let n = c.requires.taken.size in let some = takings.some_slots c.args.op in omega (arith, n, some)
 
 pub act_method-requires-clause-there : goal.act_method-requires-clause-there
 act_method-requires-clause-there g c =
@@ -46,11 +46,11 @@ act_method-requires-clause-known g c =
 
 pub act_method-requires-clause-all_told : goal.act_method-requires-clause-all_told
 act_method-requires-clause-all_told g c =
-    takings.told_there c.args.library.now c.args.arena.now c.args.frames.now (record { instruction = fetched.Number c.args.op c.args.number; end = c.args.end }) c.requires.runs.runs
+    takings.told_there c.args.library.now c.args.arena.now c.args.frames.now (record { instruction = fetched.call c.args.op c.args.number; end = c.args.end }) c.requires.runs.runs
 
 pub act_builtin-requires-clause-some : goal.act_builtin-requires-clause-some
 act_builtin-requires-clause-some g c =
-    let n = c.requires.taken.size in let some = takings.some_slots c.args.op c.requires.calls in omega (arith, n, some)
+    let n = c.requires.taken.size in let some = takings.some_slots c.args.op in omega (arith, n, some)
 
 pub act_builtin-requires-clause-there : goal.act_builtin-requires-clause-there
 act_builtin-requires-clause-there g c =
@@ -66,7 +66,7 @@ act_builtin-requires-clause-known g c =
 
 pub act_builtin-requires-clause-all_told : goal.act_builtin-requires-clause-all_told
 act_builtin-requires-clause-all_told g c =
-    takings.told_there c.args.library.now c.args.arena.now c.args.frames.now (record { instruction = fetched.Number c.args.op c.args.number; end = c.args.end }) c.requires.runs.runs
+    takings.told_there c.args.library.now c.args.arena.now c.args.frames.now (record { instruction = fetched.call c.args.op c.args.number; end = c.args.end }) c.requires.runs.runs
 
 pub returns-in-Method-clause-called : goal.returns-in-Method-clause-called
 returns-in-Method-clause-called g c p row means shelf_is state r w told tell =
@@ -137,7 +137,7 @@ returns-in-Built-clause-again g c p row means shelf_is state r =
     let new = c.act_builtin.new.frames in
     let given = c.args.operands.now in
     let laws : puttings.Laws = record { stays = c.known_law.ensures.stays; puts = c.known_law.ensures.puts; goes_on = c.keeps_law.ensures.goes_on } in
-    acted.built_again p row means shelf shelf_is c.args.op c.args.number c.args.end before behind s new state r given c.args.call c.requires.taken (record { runs = c.rows_law.ensures.runs; as_many = c.rows_law.ensures.as_many }) laws c.requires.calls c.requires.read c.act_builtin.result
+    acted.built_again p row means shelf shelf_is c.args.op c.args.number c.args.end before behind s new state r given c.args.call c.requires.taken (record { runs = c.rows_law.ensures.runs; as_many = c.rows_law.ensures.as_many }) laws c.requires.read c.act_builtin.result
     (record { puts = c.act_builtin.ensures.moved; later = c.act_builtin.ensures.later; all_told = c.act_builtin.ensures.all_told })
 
 pub returns-in-Built-clause-stays : goal.returns-in-Built-clause-stays
@@ -156,7 +156,7 @@ returns-in-NotCallable-clause-called g c p row means shelf_is state r w told tel
     let old_seen : Seen _ = record { heap = before; out = c.args.out.now; ports = map g.P.Port.seen c.args.ports.now } in
     let stop = c.refuse_call.result in
     let n = c.requires.taken.size in
-    let least = takings.some_slots c.args.op c.requires.calls in
+    let least = takings.some_slots c.args.op in
     let some = acted.some_calls s.calls c.args.call.size (omega (arith, n, least)) c.requires.taken.there in
     subst (λ (k : Callee). CallComes g.S.Sink.told g.S.Sink.count p r.place k given old_seen old_seen s s w (Err (calls.Stops stop))) (sym c.in-NotCallable.is)
     (comings.alone g.S.Sink.told g.S.Sink.count p r.place (callees.NotCallable c.in-NotCallable.value_type) given old_seen old_seen s s w refl refl told tell (Err stop)

@@ -2,7 +2,7 @@ use Rattle.std.proofs.Common.{Ok, refl, subst, arith}
 use Rattle.std.specs.Prelude.{IfNone}
 use Rattle.vm_states.specs.bc_library.Constants.{items_at, text_at}
 use Rattle.frame_calls.specs.prim_calls.Callees.{IsKnownCallee}
-use Rattle.vm_states.specs.vm_fetching.declared.instruction.Instruction.TheVariants as fetched
+use Rattle.vm_states.specs.vm_fetching.Instructions as fetched
 use Rattle.frame_calls.specs.declared.binding.FunctionCode.{FunctionCode}
 use Rattle.state_calls.specs.Codes.{LacksCode}
 use Rattle.state_calls.proofs.Arriving.{enters_stays}
@@ -16,7 +16,7 @@ use Rattle.state_calls.proofs.entering.call_code.Goals as goal
 pub skip_function-requires-clause-some : goal.skip_function-requires-clause-some
 skip_function-requires-clause-some c =
     let n = c.requires.taken.size in
-    let some = takings.some_slots c.args.op c.requires.calls in
+    let some = takings.some_slots c.args.op in
     omega (arith, n, some)
 
 pub skip_function-requires-clause-there : goal.skip_function-requires-clause-there
@@ -51,7 +51,7 @@ returns-in-None-clause-again c p row means shelf_is state r =
 pub run_function-requires-clause-some : goal.run_function-requires-clause-some
 run_function-requires-clause-some c =
     let n = c.requires.taken.size in
-    let some = takings.some_slots c.args.op c.requires.calls in
+    let some = takings.some_slots c.args.op in
     omega (arith, n, some)
 
 pub run_function-requires-clause-there : goal.run_function-requires-clause-there
@@ -60,19 +60,19 @@ run_function-requires-clause-there c = c.requires.taken.there
 pub run_function-requires-clause-locals : goal.run_function-requires-clause-locals
 run_function-requires-clause-locals c =
     functions.locals_fit (record { runs = c.rows_law.ensures.runs; as_many = c.rows_law.ensures.as_many }) c.room_law.ensures.stands c.args.bindings.now.room c.args.library.now c.args.arena.now c.args.frames.now
-    (record { instruction = fetched.Number c.args.op c.args.number; end = c.args.end }) c.requires.runs c.args.function c.in-Some.module_number c.in-Some.row.now c.in-Some.ensures.found.1 c.in-Some.ensures.found.0
+    (record { instruction = fetched.call c.args.op c.args.number; end = c.args.end }) c.requires.runs c.args.function c.in-Some.module_number c.in-Some.row.now c.in-Some.ensures.found.1 c.in-Some.ensures.found.0
     (record { params = c.as_slice.result; given = c.in-Some.row.now.given; locals = c.in-Some.row.now.locals }) c.as_slice.ensures refl refl
 
 pub run_function-requires-clause-params : goal.run_function-requires-clause-params
 run_function-requires-clause-params c =
     functions.params_fit (record { runs = c.rows_law.ensures.runs; as_many = c.rows_law.ensures.as_many }) c.room_law.ensures.stands c.args.bindings.now.room c.args.library.now c.args.arena.now c.args.frames.now
-    (record { instruction = fetched.Number c.args.op c.args.number; end = c.args.end }) c.requires.runs c.args.function c.in-Some.module_number c.in-Some.row.now c.in-Some.ensures.found.1 c.in-Some.ensures.found.0
+    (record { instruction = fetched.call c.args.op c.args.number; end = c.args.end }) c.requires.runs c.args.function c.in-Some.module_number c.in-Some.row.now c.in-Some.ensures.found.1 c.in-Some.ensures.found.0
     (record { params = c.as_slice.result; given = c.in-Some.row.now.given; locals = c.in-Some.row.now.locals }) c.as_slice.ensures refl refl
 
 pub run_function-requires-clause-fits : goal.run_function-requires-clause-fits
 run_function-requires-clause-fits c =
     functions.bindings_fit (record { runs = c.rows_law.ensures.runs; as_many = c.rows_law.ensures.as_many }) c.room_law.ensures.stands c.args.bindings.now.room c.args.library.now c.args.arena.now c.args.frames.now
-    (record { instruction = fetched.Number c.args.op c.args.number; end = c.args.end }) c.requires.runs c.args.function c.in-Some.module_number c.in-Some.row.now c.in-Some.ensures.found.1 c.in-Some.ensures.found.0
+    (record { instruction = fetched.call c.args.op c.args.number; end = c.args.end }) c.requires.runs c.args.function c.in-Some.module_number c.in-Some.row.now c.in-Some.ensures.found.1 c.in-Some.ensures.found.0
     (record { params = c.as_slice.result; given = c.in-Some.row.now.given; locals = c.in-Some.row.now.locals }) c.as_slice.ensures refl refl
 
 pub run_function-requires-clause-few_args : goal.run_function-requires-clause-few_args
@@ -87,7 +87,7 @@ run_function-requires-clause-known c = c.requires.taken.operands
 
 pub run_function-requires-clause-all_told : goal.run_function-requires-clause-all_told
 run_function-requires-clause-all_told c =
-    takings.told_there c.args.library.now c.args.arena.now c.args.frames.now (record { instruction = fetched.Number c.args.op c.args.number; end = c.args.end }) c.requires.runs.runs
+    takings.told_there c.args.library.now c.args.arena.now c.args.frames.now (record { instruction = fetched.call c.args.op c.args.number; end = c.args.end }) c.requires.runs.runs
 
 pub returns-in-Some-clause-comes : goal.returns-in-Some-clause-comes
 returns-in-Some-clause-comes c p row means shelf_is state r w =

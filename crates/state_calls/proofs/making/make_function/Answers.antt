@@ -9,8 +9,8 @@ use Rattle.frame_calls.specs.bc_machine.Library.{Plain}
 use Rattle.vm_states.specs.vm_frames.Calls.{Call, OfRunning}
 use Rattle.vm_states.specs.frame_moves.Shown.{Tables, IsNext}
 use Rattle.vm_states.specs.vm_fetching.declared.instruction.Fetched.{Fetched}
-use Rattle.vm_states.specs.vm_fetching.declared.instruction.Instruction.TheVariants as fetched
-use Rattle.vm_states.specs.vm_fetching.declared.operations.NumberOp.TheVariants as number_ops
+use Rattle.vm_states.specs.vm_fetching.Instructions as fetched
+use Rattle.vm_states.specs.vm_fetching.declared.operations.MakeOp.TheVariants as make_ops
 use Rattle.frame_calls.specs.Children.{IsChild}
 use Rattle.frame_calls.specs.Coming.{ComesTo}
 use Rattle.frame_calls.specs.Putting.{IsKnownStop}
@@ -32,7 +32,7 @@ child_in-child-requires c =
     let r = h.ready in
     let laws : places.Laws = record { runs = c.rows_law.ensures.runs; as_many = c.rows_law.ensures.as_many } in
     subst (λ (z : Shelf). HasChildIn z c.args.names.now c.running-module_number.result.0 c.running-module_number.result.1 c.args.number) (sym c.requires.rows)
-    (bases.child_found laws h.program h.row h.means c.args.frames.now (record { instruction = fetched.Number number_ops.MakeFunction c.args.number; end = c.args.end }) h.state.running r c.args.library.now h.shelf_is c.args.names.now c.requires.names
+    (bases.child_found laws h.program h.row h.means c.args.frames.now (record { instruction = fetched.make make_ops.MakeFunction c.args.number; end = c.args.end }) h.state.running r c.args.library.now h.shelf_is c.args.names.now c.requires.names
     c.args.number c.running-module_number.result.0 c.running-module_number.result.1 (first_of _ c.args.frames.now.calls r.first r.others r.are c.running-module_number.ensures.module_number) (first_of _ c.args.frames.now.calls r.first r.others r.are c.running-module_number.ensures.code)
     (h.program.plans (h.program.tables.module_name r.first.module_number) r.first.code) r.finds.0)
 
@@ -60,7 +60,7 @@ returns-clause-acts c p row means shelf_is state r =
     let behind = c.make_function.new.arena in
     let child = c.child_in-child.result in
     let result = c.make_function.result in
-    let f : Fetched = record { instruction = fetched.Number number_ops.MakeFunction c.args.number; end = c.args.end } in
+    let f : Fetched = record { instruction = fetched.make make_ops.MakeFunction c.args.number; end = c.args.end } in
     let laws : places.Laws = record { runs = c.rows_law.ensures.runs; as_many = c.rows_law.ensures.as_many } in
     let is = subst (λ (z : Shelf). IsChildIn z c.args.names.now c.running-module_number.result.0 c.running-module_number.result.1 c.args.number child) c.requires.rows c.child_in-child.ensures in
     let stands = bases.child_stands laws p row means old f state.running r c.args.library.now shelf_is c.args.names.now c.requires.names

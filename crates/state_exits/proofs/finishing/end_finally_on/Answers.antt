@@ -11,10 +11,9 @@ use Rattle.vm_states.specs.frame_moves.Outcomes.{world_of}
 use Rattle.vm_states.specs.frame_exits.Causes.{cause_slot, FitsEntries, GoesOn, unkept}
 use Rattle.vm_states.specs.frame_exits.Ends.{with_modules}
 use Rattle.vm_states.specs.frame_exits.Known.{HasModule}
-use Rattle.vm_states.specs.vm_fetching.declared.operations.PlainOp.TheVariants as plain_ops
 use Rattle.state_exits.specs.Keeping.{TargetStarts}
 use Rattle.state_exits.specs.Modules.{registered_names}
-use Rattle.state_exits.specs.Running.{fetched_plain}
+use Rattle.state_exits.specs.Running.{fetched_finish}
 use Rattle.state_exits.proofs.Registered.{own_fewer}
 use Rattle.state_exits.proofs.Sounds.{ending_in}
 use Rattle.state_exits.proofs.Tellings.{out, tables_are, counted, known_out, last_out, registered_out}
@@ -32,7 +31,7 @@ end_finally-after-requires-clause-cause g c =
     let r = h.runs.ready in
     let row = c.requires.runs.0 in
     let s = c.args.frames.now in
-    let f = fetched_plain plain_ops.EndFinally c.args.end in
+    let f = fetched_finish c.args.end in
     let view = view_of p.tables in
     let texts = g.C.Constants.text_of c.args.consts.now in
     let tuples = g.C.Constants.items_of c.args.consts.now in
@@ -49,7 +48,7 @@ end_finally-after-requires-clause-entry g c =
     let r = h.runs.ready in
     let row = c.requires.runs.0 in
     let s = c.args.frames.now in
-    let f = fetched_plain plain_ops.EndFinally c.args.end in
+    let f = fetched_finish c.args.end in
     let view = view_of p.tables in
     let texts = g.C.Constants.text_of c.args.consts.now in
     let tuples = g.C.Constants.items_of c.args.consts.now in
@@ -65,7 +64,7 @@ end_finally-after-requires-clause-named g c =
     let r = h.runs.ready in
     let row = c.requires.runs.0 in
     let s = c.args.frames.now in
-    let f = fetched_plain plain_ops.EndFinally c.args.end in
+    let f = fetched_finish c.args.end in
     let view = view_of p.tables in
     let texts = g.C.Constants.text_of c.args.consts.now in
     let tuples = g.C.Constants.items_of c.args.consts.now in
@@ -81,7 +80,7 @@ end_finally-after-requires-clause-role g c =
     let r = h.runs.ready in
     let row = c.requires.runs.0 in
     let s = c.args.frames.now in
-    let f = fetched_plain plain_ops.EndFinally c.args.end in
+    let f = fetched_finish c.args.end in
     let view = view_of p.tables in
     let texts = g.C.Constants.text_of c.args.consts.now in
     let tuples = g.C.Constants.items_of c.args.consts.now in
@@ -97,7 +96,7 @@ end_finally-after-requires-clause-last g c =
     let r = h.runs.ready in
     let row = c.requires.runs.0 in
     let s = c.args.frames.now in
-    let f = fetched_plain plain_ops.EndFinally c.args.end in
+    let f = fetched_finish c.args.end in
     let view = view_of p.tables in
     let texts = g.C.Constants.text_of c.args.consts.now in
     let tuples = g.C.Constants.items_of c.args.consts.now in
@@ -113,7 +112,7 @@ end_finally-after-requires-clause-registered g c =
     let r = h.runs.ready in
     let row = c.requires.runs.0 in
     let s = c.args.frames.now in
-    let f = fetched_plain plain_ops.EndFinally c.args.end in
+    let f = fetched_finish c.args.end in
     let view = view_of p.tables in
     let texts = g.C.Constants.text_of c.args.consts.now in
     let tuples = g.C.Constants.items_of c.args.consts.now in
@@ -129,7 +128,7 @@ end_finally-after-requires-clause-all_told g c =
     let r = h.runs.ready in
     let row = c.requires.runs.0 in
     let s = c.args.frames.now in
-    let f = fetched_plain plain_ops.EndFinally c.args.end in
+    let f = fetched_finish c.args.end in
     let view = view_of p.tables in
     let texts = g.C.Constants.text_of c.args.consts.now in
     let tuples = g.C.Constants.items_of c.args.consts.now in
@@ -145,7 +144,7 @@ settle-requires-clause-waits g c =
     let r = h.runs.ready in
     let row = c.requires.runs.0 in
     let s = c.args.frames.now in
-    let f = fetched_plain plain_ops.EndFinally c.args.end in
+    let f = fetched_finish c.args.end in
     let view = view_of p.tables in
     let texts = g.C.Constants.text_of c.args.consts.now in
     let tuples = g.C.Constants.items_of c.args.consts.now in
@@ -168,7 +167,7 @@ returns-clause-comes g c p row same k means tells named state registered r =
     let m0 = c.args.modules.now in
     let m1 = c.end_finally-after.new.modules in
     let u = c.end_finally-after.ensures in
-    let f = fetched_plain plain_ops.EndFinally c.args.end in
+    let f = fetched_finish c.args.end in
     let view = view_of p.tables in
     let texts = g.C.Constants.text_of c.args.consts.now in
     let tuples = g.C.Constants.items_of c.args.consts.now in

@@ -8,9 +8,9 @@ use Rattle.vm_states.specs.frame_moves.Shown.{step_of}
 use Rattle.vm_states.specs.frame_moves.Outcomes.{world_of}
 use Rattle.vm_states.specs.frame_exits.Known.{KeepsException}
 use Rattle.vm_states.specs.frame_exits.Ends.{with_modules, state_of}
-use Rattle.vm_states.specs.vm_fetching.declared.operations.PlainOp.TheVariants as plain_ops
+use Rattle.vm_states.specs.vm_fetching.declared.operations.LeaveOp.TheVariants as leave_ops
 use Rattle.state_exits.specs.Modules.{registered_names}
-use Rattle.state_exits.specs.Running.{fetched_plain}
+use Rattle.state_exits.specs.Running.{fetched_leave}
 use Rattle.state_exits.proofs.Registered.{own_fewer}
 use Rattle.state_exits.proofs.Sounds.{again_in}
 use Rattle.state_exits.proofs.Tellings.{out, tables_are, counted}
@@ -22,7 +22,7 @@ use Rattle.state_exits.proofs.raising.raise_again_on.Goals as goal
 
 pub place_in-place-requires-clause-running : goal.place_in-place-requires-clause-running
 place_in-place-requires-clause-running g c =
-    let h = c.requires.runs.1 in some_run h.program c.args.frames.now c.args.row.now (fetched_plain plain_ops.RaiseLast c.requires.runs.0) h.ready
+    let h = c.requires.runs.1 in some_run h.program c.args.frames.now c.args.row.now (fetched_leave leave_ops.RaiseLast c.requires.runs.0) h.ready
 
 pub place_in-place-requires-clause-row : goal.place_in-place-requires-clause-row
 place_in-place-requires-clause-row g c = let h = c.requires.runs.1 in (h.program.shelf, h.number, h.verified)
@@ -31,7 +31,7 @@ pub raise_last-requires-clause-entries : goal.raise_last-requires-clause-entries
 raise_last-requires-clause-entries g c =
     let h = c.requires.runs.1 in
     let r = h.ready in
-    let f = fetched_plain plain_ops.RaiseLast c.requires.runs.0 in
+    let f = fetched_leave leave_ops.RaiseLast c.requires.runs.0 in
     let objects = c.args.arena.now.objects in
     on_first h.program c.args.frames.now c.args.row.now f r (λ d. All (KeepsException objects) d.entries) (first_known h.program objects c.args.frames.now c.args.row.now f r h.state).entries
 
@@ -55,7 +55,7 @@ returns-clause-comes g c p end means tells named state registered r =
     let a1 = c.raise_last.new.arena in
     let m0 = c.args.modules.now in
     let m1 = c.raise_last.new.modules in
-    let f = fetched_plain plain_ops.RaiseLast end in
+    let f = fetched_leave leave_ops.RaiseLast end in
     let item = Plain (instrs.Plain ops.RaiseLast) in
     raises_on c.keeps_law.ensures.went c.sound_law.ensures.steps texts tuples c.args.names.now p means tells named a0 a1 m0 m1 old new c.raise_last.result
     c.raise_last.ensures.thrown c.raise_last.ensures.placed c.raise_last.ensures.keeps c.raise_last.ensures.forgets state.known c.args.row.now f state registered r

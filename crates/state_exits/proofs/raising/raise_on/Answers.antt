@@ -11,9 +11,9 @@ use Rattle.vm_states.specs.vm_frames.Views.{starts_of}
 use Rattle.vm_states.specs.frame_moves.Shown.{view_of, step_of}
 use Rattle.vm_states.specs.frame_moves.Outcomes.{world_of}
 use Rattle.vm_states.specs.frame_exits.Ends.{with_modules, state_of}
-use Rattle.vm_states.specs.vm_fetching.declared.operations.PlainOp.TheVariants as plain_ops
+use Rattle.vm_states.specs.vm_fetching.declared.operations.LeaveOp.TheVariants as leave_ops
 use Rattle.state_exits.specs.Modules.{registered_names}
-use Rattle.state_exits.specs.Running.{fetched_plain}
+use Rattle.state_exits.specs.Running.{fetched_leave}
 use Rattle.state_exits.proofs.Registered.{own_fewer}
 use Rattle.state_exits.proofs.Sounds.{raising_in}
 use Rattle.state_exits.proofs.Tellings.{out, tables_are, counted}
@@ -25,7 +25,7 @@ use Rattle.state_exits.proofs.raising.raise_on.Goals as goal
 
 pub place_in-place-requires-clause-running : goal.place_in-place-requires-clause-running
 place_in-place-requires-clause-running g c =
-    let h = c.requires.runs.1 in some_run h.program c.args.frames.now c.args.row.now (fetched_plain plain_ops.RaiseObj c.requires.runs.0) h.ready
+    let h = c.requires.runs.1 in some_run h.program c.args.frames.now c.args.row.now (fetched_leave leave_ops.RaiseObj c.requires.runs.0) h.ready
 
 pub place_in-place-requires-clause-row : goal.place_in-place-requires-clause-row
 place_in-place-requires-clause-row g c = let h = c.requires.runs.1 in (h.program.shelf, h.number, h.verified)
@@ -34,7 +34,7 @@ pub raise_obj-requires-clause-value : goal.raise_obj-requires-clause-value
 raise_obj-requires-clause-value g c =
     let h = c.requires.runs.1 in
     let r = h.ready in
-    let f = fetched_plain plain_ops.RaiseObj c.requires.runs.0 in
+    let f = fetched_leave leave_ops.RaiseObj c.requires.runs.0 in
     let s = c.args.frames.now in
     let view = view_of h.program.tables in
     let t = c.tops_law.ensures.one view (starts_of view r.first) r.first.slots r.finds in
@@ -65,7 +65,7 @@ returns-clause-comes g c p end means tells named state registered r =
     let a1 = c.raise_obj.new.arena in
     let m0 = c.args.modules.now in
     let m1 = c.raise_obj.new.modules in
-    let f = fetched_plain plain_ops.RaiseObj end in
+    let f = fetched_leave leave_ops.RaiseObj end in
     let item = Plain (instrs.Plain ops.RaiseObj) in
     raises_on c.keeps_law.ensures.went c.sound_law.ensures.steps texts tuples c.args.names.now p means tells named a0 a1 m0 m1 old new c.raise_obj.result
     c.raise_obj.ensures.thrown c.raise_obj.ensures.placed c.raise_obj.ensures.keeps c.raise_obj.ensures.forgets state.known c.args.row.now f state registered r

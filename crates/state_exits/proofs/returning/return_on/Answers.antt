@@ -7,8 +7,8 @@ use Rattle.vm_states.specs.vm_frames.Views.{starts_of}
 use Rattle.vm_states.specs.vm_frames.Placed.{IsPlaced}
 use Rattle.vm_states.specs.frame_moves.Shown.{view_of}
 use Rattle.vm_states.specs.frame_exits.Known.{HasModule}
-use Rattle.vm_states.specs.vm_fetching.declared.operations.PlainOp.TheVariants as plain_ops
-use Rattle.state_exits.specs.Running.{fetched_plain}
+use Rattle.vm_states.specs.vm_fetching.declared.operations.LeaveOp.TheVariants as leave_ops
+use Rattle.state_exits.specs.Running.{fetched_leave}
 use Rattle.state_exits.proofs.Tellings.{out, tables_are, counted, known_out, last_out, registered_out}
 use Rattle.state_exits.proofs.Places.{on_first, all_first}
 use Rattle.state_exits.proofs.Found.{first_known}
@@ -20,12 +20,12 @@ return_value-after-requires-clause-value g c =
     let h = c.requires.runs.2.runs in
     let r = h.ready in
     let t = c.tops_law.ensures.one (view_of h.program.tables) (starts_of (view_of h.program.tables) r.first) r.first.slots r.finds in
-    (t.top, on_first h.program c.args.frames.now c.requires.runs.1 (fetched_plain plain_ops.ReturnValue c.requires.runs.0) r (λ d. slice_get d.slots 0 ≡ Some (slots.Value t.top)) (ap (λ (z : List Slot). slice_get z 0) t.are))
+    (t.top, on_first h.program c.args.frames.now c.requires.runs.1 (fetched_leave leave_ops.ReturnValue c.requires.runs.0) r (λ d. slice_get d.slots 0 ≡ Some (slots.Value t.top)) (ap (λ (z : List Slot). slice_get z 0) t.are))
 
 pub return_value-after-requires-clause-named : goal.return_value-after-requires-clause-named
 return_value-after-requires-clause-named g c =
     let h = c.requires.runs.2.runs in
-    let f = fetched_plain plain_ops.ReturnValue c.requires.runs.0 in
+    let f = fetched_leave leave_ops.ReturnValue c.requires.runs.0 in
     let N : Call → Type 0 = λ d. d.module_number < length c.args.names.now in
     let all = counted (g.C.Constants.text_of c.args.consts.now) (g.C.Constants.items_of c.args.consts.now) h.program h.tells c.args.names.now h.named c.args.frames.now.calls h.state.running.of_modules in
     on_first h.program c.args.frames.now c.requires.runs.1 f h.ready N (all_first h.program c.args.frames.now c.requires.runs.1 f h.ready N all)
@@ -33,7 +33,7 @@ return_value-after-requires-clause-named g c =
 pub return_value-after-requires-clause-role : goal.return_value-after-requires-clause-role
 return_value-after-requires-clause-role g c =
     let h = c.requires.runs.2.runs in
-    let f = fetched_plain plain_ops.ReturnValue c.requires.runs.0 in
+    let f = fetched_leave leave_ops.ReturnValue c.requires.runs.0 in
     let objects = c.args.arena.now.objects in
     on_first h.program c.args.frames.now c.requires.runs.1 f h.ready (λ d. HasModule objects d.role) (first_known h.program objects c.args.frames.now c.requires.runs.1 f h.ready h.state).role
 
@@ -62,7 +62,7 @@ settle-requires-clause-waits g c =
     let old = c.args.frames.now in
     let u = c.return_value-after.ensures in
     let t = c.tops_law.ensures.one (view_of p.tables) (starts_of (view_of p.tables) r.first) r.first.slots r.finds in
-    let f = fetched_plain plain_ops.ReturnValue c.requires.runs.0 in
+    let f = fetched_leave leave_ops.ReturnValue c.requires.runs.0 in
     let row = c.requires.runs.1 in
     let top = on_first p old row f r (λ d. slice_get d.slots 0 ≡ Some (slots.Value t.top)) (ap (λ (z : List Slot). slice_get z 0) t.are) in
     let P : Call → Type 0 = λ d. IsPlaced (view_of p.tables) d in (
@@ -83,7 +83,7 @@ returns-clause-comes g c p end row same means tells named state registered r =
     let mid = c.return_value-after.new.frames in
     let u = c.return_value-after.ensures in
     let t = c.tops_law.ensures.one (view_of p.tables) (starts_of (view_of p.tables) r.first) r.first.slots r.finds in
-    let f = fetched_plain plain_ops.ReturnValue end in
+    let f = fetched_leave leave_ops.ReturnValue end in
     let top = on_first p old row f r (λ d. slice_get d.slots 0 ≡ Some (slots.Value t.top)) (ap (λ (z : List Slot). slice_get z 0) t.are) in
     let P : Call → Type 0 = λ d. IsPlaced (view_of p.tables) d in
     let moved = same_calls old mid _ (u.calls t.top top) in
@@ -102,5 +102,5 @@ returns-clause-rooms g c =
     let old = c.args.frames.now in
     let mid = c.return_value-after.new.frames in
     let t = c.tops_law.ensures.one (view_of h.program.tables) (starts_of (view_of h.program.tables) r.first) r.first.slots r.finds in
-    let top = on_first h.program old c.requires.runs.1 (fetched_plain plain_ops.ReturnValue c.requires.runs.0) r (λ d. slice_get d.slots 0 ≡ Some (slots.Value t.top)) (ap (λ (z : List Slot). slice_get z 0) t.are) in
+    let top = on_first h.program old c.requires.runs.1 (fetched_leave leave_ops.ReturnValue c.requires.runs.0) r (λ d. slice_get d.slots 0 ≡ Some (slots.Value t.top)) (ap (λ (z : List Slot). slice_get z 0) t.are) in
     same_through old mid c.settle.new.frames (same_calls old mid _ (c.return_value-after.ensures.calls t.top top)) c.settle.ensures.same

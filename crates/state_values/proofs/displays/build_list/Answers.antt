@@ -4,8 +4,8 @@ use Rattle.vm_states.specs.bc_ops.declared.instr.Instr.TheVariants as instrs
 use Rattle.vm_states.specs.bc_machine.Library.{Plain}
 use Rattle.vm_states.specs.frame_values.Effects.{Steps}
 use Rattle.vm_states.specs.frame_values.Slots.{Puts, with_value}
-use Rattle.vm_states.specs.vm_fetching.declared.instruction.Instruction.TheVariants as fetched
-use Rattle.vm_states.specs.vm_fetching.declared.operations.NumberOp.TheVariants as number_ops
+use Rattle.vm_states.specs.vm_fetching.Instructions as fetched
+use Rattle.vm_states.specs.vm_fetching.declared.operations.BuildOp.TheVariants as build_ops
 use Rattle.state_values.proofs.Collecting as collecting
 use Rattle.state_values.proofs.Ending as ending
 use Rattle.state_values.proofs.Finding as finding
@@ -35,7 +35,7 @@ returns g c =
     let new = c.build_list.new.frames in
     let e = c.build_list.ensures in
     record {
-      acts = ending.puts c.acting_law.ensures.acts (record { instruction = fetched.Number number_ops.BuildList c.args.n; end = c.args.end }) (λ p s row r. r.begins tt) 0 (Plain (instrs.Num ops.BuildList c.args.n)) old new
+      acts = ending.puts c.acting_law.ensures.acts (record { instruction = fetched.build build_ops.BuildList c.args.n; end = c.args.end }) (λ p s row r. r.begins tt) 0 (Plain (instrs.Num ops.BuildList c.args.n)) old new
           e.leaves (λ p d tells. refl)
           (subst (λ (k : ℕ). Steps texts tuples (Plain (instrs.Num ops.BuildList k)) 0 c.args.end before behind old.calls new.calls c.build_list.result) c.requires.places e.steps)
           c.args.n (subst (λ (k : ℕ). Puts texts tuples behind.objects (with_value c.args.end k) old new c.build_list.result) c.requires.places e.moved);

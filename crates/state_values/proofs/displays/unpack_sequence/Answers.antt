@@ -6,8 +6,8 @@ use Rattle.vm_states.specs.frame_values.Effects.{Steps}
 use Rattle.vm_states.specs.frame_values.Slots.{PutsValues}
 use Rattle.vm_states.specs.vm_frames.Views.{frame_of}
 use Rattle.vm_states.specs.frame_moves.Shown.{view_of}
-use Rattle.vm_states.specs.vm_fetching.declared.instruction.Instruction.TheVariants as fetched
-use Rattle.vm_states.specs.vm_fetching.declared.operations.NumberOp.TheVariants as number_ops
+use Rattle.vm_states.specs.vm_fetching.Instructions as fetched
+use Rattle.vm_states.specs.vm_fetching.declared.operations.BuildOp.TheVariants as build_ops
 use Rattle.state_values.proofs.Ending as ending
 use Rattle.state_values.proofs.Finding as finding
 use Rattle.state_values.proofs.displays.unpack_sequence.Goals as goal
@@ -38,7 +38,7 @@ returns g c =
     let new = c.unpack_sequence.new.frames in
     let e = c.unpack_sequence.ensures in
     record {
-      acts = ending.unpacks c.acting_law.ensures.acts (record { instruction = fetched.Number number_ops.UnpackSequence c.args.n; end = c.args.end }) (λ p s row r. r.begins tt) 0 (Plain (instrs.Num ops.UnpackSequence c.args.n)) old new
+      acts = ending.unpacks c.acting_law.ensures.acts (record { instruction = fetched.build build_ops.UnpackSequence c.args.n; end = c.args.end }) (λ p s row r. r.begins tt) 0 (Plain (instrs.Num ops.UnpackSequence c.args.n)) old new
           e.leaves (λ p d tells. refl)
           (subst (λ (k : ℕ). Steps texts tuples (Plain (instrs.Num ops.UnpackSequence k)) 0 c.args.end before behind old.calls new.calls c.unpack_sequence.result) c.requires.places e.steps)
           c.args.n (subst (λ (k : ℕ). PutsValues texts tuples behind.objects c.args.end k old new c.unpack_sequence.result) c.requires.places e.moved);

@@ -4,8 +4,7 @@ use Rattle.vm_states.specs.bc_ops.declared.instr.Instr.TheVariants as instrs
 use Rattle.vm_states.specs.bc_machine.Library.{Plain}
 use Rattle.vm_states.specs.vm_frames.Views.{frame_of}
 use Rattle.vm_states.specs.frame_moves.Shown.{view_of}
-use Rattle.vm_states.specs.vm_fetching.declared.operations.PlainOp.TheVariants as plain_ops
-use Rattle.state_values.specs.Moving.{fetched_plain}
+use Rattle.state_values.specs.Moving.{fetched_iterate}
 use Rattle.state_values.proofs.Ending as ending
 use Rattle.state_values.proofs.Finding as finding
 use Rattle.state_values.proofs.iterators.get_iter_stack.Goals as goal
@@ -28,6 +27,6 @@ get_iter_stack-requires-clause-all_told g c = finding.all_told c.requires.runs
 pub returns : goal.returns
 returns g c =
     record {
-      acts = ending.iterates c.acting_law.ensures.acts (fetched_plain plain_ops.GetIterStack c.args.end) (λ p s row r. r.begins tt) 0 (Plain (instrs.Plain ops.GetIterStack)) c.args.frames.now c.get_iter_stack.new.frames
+      acts = ending.iterates c.acting_law.ensures.acts (fetched_iterate c.args.end) (λ p s row r. r.begins tt) 0 (Plain (instrs.Plain ops.GetIterStack)) c.args.frames.now c.get_iter_stack.new.frames
           c.get_iter_stack.ensures.leaves (λ p d tells. refl) c.get_iter_stack.ensures.steps c.get_iter_stack.ensures.moved;
     }

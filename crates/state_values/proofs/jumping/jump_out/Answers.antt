@@ -4,7 +4,7 @@ use Rattle.vm_states.specs.vm_frames.Moves.{jumped}
 use Rattle.vm_states.specs.vm_frames.Views.{starts_of}
 use Rattle.vm_states.specs.frame_moves.Shown.{view_of}
 use Rattle.vm_states.specs.vm_fetching.declared.instruction.Fetched.{Fetched}
-use Rattle.vm_states.specs.vm_fetching.declared.instruction.Instruction.TheVariants as fetched
+use Rattle.vm_states.specs.vm_fetching.Instructions as fetched
 use Rattle.state_values.proofs.Moves as moves
 use Rattle.state_values.proofs.jumping.jump_out.Goals as goal
 
@@ -14,11 +14,11 @@ unwind_jump-requires c =
     let r = h.ready in
     let n = c.tops_law.ensures.entries (view_of h.program.tables) r.first in
     let k = r.finds in
-    moves.of_first (λ d. c.args.byte % 128 ≤ length d.entries) h.program c.args.frames.now h.row (record { instruction = fetched.Unwind c.args.target c.args.byte; end = c.args.end }) r (omega (arith, n, k))
+    moves.of_first (λ d. c.args.byte % 128 ≤ length d.entries) h.program c.args.frames.now h.row (record { instruction = fetched.unwind c.args.target c.args.byte; end = c.args.end }) r (omega (arith, n, k))
 
 pub returns-clause-goes : goal.returns-clause-goes
 returns-clause-goes c p row means run r =
-    let f : Fetched = record { instruction = fetched.Unwind c.args.target c.args.byte; end = c.args.end } in
+    let f : Fetched = record { instruction = fetched.unwind c.args.target c.args.byte; end = c.args.end } in
     moves.goes_with c.keeps_law.ensures.went c.args.frames.now c.unwind_jump.new.frames f (λ d. (jumped c.args.target (c.args.byte % 128) (nat_le 128 c.args.byte) d.entries d.slots d).call) p row means run r
     (λ h. c.placed_law.ensures.jumps (view_of p.tables) c.args.target (c.args.byte % 128) (nat_le 128 c.args.byte) r.first h r.target)
     (moves.jumped_module c.args.target (c.args.byte % 128) (nat_le 128 c.args.byte) r.first.entries r.first.slots r.first)

@@ -1,5 +1,4 @@
-use Rattle.vm_states.specs.vm_fetching.declared.instruction.Instruction.TheVariants as fetched
-use Rattle.vm_states.specs.vm_fetching.declared.operations.JumpOp.TheVariants as jump_ops
+use Rattle.vm_states.specs.vm_fetching.Instructions as fetched
 use Rattle.state_values.proofs.Finding as finding
 use Rattle.state_values.proofs.Shifting as shifting
 use Rattle.state_values.proofs.moving.jump.Goals as goal
@@ -15,6 +14,6 @@ returns g c =
     let old = c.args.frames.now in
     let new = c.jump_on.new.frames in
     record {
-      acts = c.acting_law.ensures.moves texts tuples (record { instruction = fetched.Jump jump_ops.Jump c.args.target; end = c.args.end }) heap old new c.jump_on.ensures.goes
+      acts = c.acting_law.ensures.moves texts tuples (record { instruction = fetched.jump c.args.target; end = c.args.end }) heap old new c.jump_on.ensures.goes
           (shifting.gone_to texts tuples heap.objects old new c.args.target c.jump_on.ensures.moved);
     }

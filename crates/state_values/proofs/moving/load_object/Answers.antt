@@ -1,4 +1,4 @@
-use Rattle.vm_states.specs.vm_fetching.declared.instruction.Instruction.TheVariants as fetched
+use Rattle.vm_states.specs.vm_fetching.Instructions as fetched
 use Rattle.vm_states.specs.vm_frames.declared.slot.Slot.TheVariants as slots
 use Rattle.state_values.proofs.Constancy as constancy
 use Rattle.state_values.proofs.Finding as finding
@@ -18,6 +18,6 @@ returns g c =
     let h = c.requires.runs in
     let k = h.ready.constant in
     record {
-      acts = c.acting_law.ensures.moves texts tuples (record { instruction = fetched.Object c.args.v; end = c.args.end }) heap old new c.load_constant.ensures.goes
+      acts = c.acting_law.ensures.moves texts tuples (record { instruction = fetched.object c.args.v; end = c.args.end }) heap old new c.load_constant.ensures.goes
           (shifting.pushed texts tuples heap.objects old new c.args.end (slots.Value c.args.v) (finding.value_known h c.args.v (constancy.object_known h.program heap.objects k.0 k.1 c.args.v h.means k.2)) c.load_constant.ensures.moved);
     }

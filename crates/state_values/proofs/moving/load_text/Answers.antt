@@ -1,5 +1,4 @@
-use Rattle.vm_states.specs.vm_fetching.declared.instruction.Instruction.TheVariants as fetched
-use Rattle.vm_states.specs.vm_fetching.declared.operations.NameOp.TheVariants as name_ops
+use Rattle.vm_states.specs.vm_fetching.Instructions as fetched
 use Rattle.vm_states.specs.prim_names.arena_heap.declared.value.Value.TheVariants as values
 use Rattle.vm_states.specs.vm_frames.declared.slot.Slot.TheVariants as slots
 use Rattle.state_values.proofs.Finding as finding
@@ -17,6 +16,6 @@ returns g c =
     let old = c.args.frames.now in
     let new = c.load_str.new.frames in
     record {
-      acts = c.acting_law.ensures.moves texts tuples (record { instruction = fetched.Name name_ops.LoadConstString c.args.text; end = c.args.end }) heap old new c.load_str.ensures.goes
+      acts = c.acting_law.ensures.moves texts tuples (record { instruction = fetched.text c.args.text; end = c.args.end }) heap old new c.load_str.ensures.goes
           (shifting.pushed texts tuples heap.objects old new c.args.end (slots.Value (values.Str c.args.text)) (record { leads = record { meets = tt; small = tt }; told = finding.text_told c.requires.runs c.args.text c.requires.runs.ready.text }) c.load_str.ensures.moved);
     }

@@ -1,5 +1,5 @@
-use Rattle.vm_states.specs.vm_fetching.declared.instruction.Instruction.TheVariants as fetched
-use Rattle.vm_states.specs.vm_fetching.declared.operations.NumberOp.TheVariants as number_ops
+use Rattle.vm_states.specs.vm_fetching.Instructions as fetched
+use Rattle.vm_states.specs.vm_fetching.declared.operations.LocalOp.TheVariants as local_ops
 use Rattle.state_values.proofs.Finding as finding
 use Rattle.state_values.proofs.Shifting as shifting
 use Rattle.state_values.proofs.moving.store_fast.Goals as goal
@@ -16,6 +16,6 @@ returns g c =
     let new = c.store_local.new.frames in
     let top = finding.one c.requires.runs c.tops_law.ensures.one c.requires.runs.ready.finds in
     record {
-      acts = c.acting_law.ensures.moves texts tuples (record { instruction = fetched.Number number_ops.StoreFast c.args.n; end = c.args.end }) heap old new c.store_local.ensures.goes
+      acts = c.acting_law.ensures.moves texts tuples (record { instruction = fetched.local local_ops.StoreFast c.args.n; end = c.args.end }) heap old new c.store_local.ensures.goes
           (shifting.stored texts tuples heap.objects old new c.args.end c.args.n top.0 top.2 (c.store_local.ensures.moved top.0 top.1));
     }

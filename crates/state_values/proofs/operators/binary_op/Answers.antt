@@ -3,7 +3,7 @@ use Rattle.std.specs.Prelude.{IsSome}
 use Rattle.vm_states.specs.bc_ops.declared.instr.Instr.TheVariants as instrs
 use Rattle.vm_states.specs.bc_machine.Library.{Plain}
 use Rattle.vm_states.specs.frame_values.Effects.{Steps}
-use Rattle.vm_states.specs.vm_fetching.declared.instruction.Instruction.TheVariants as fetched
+use Rattle.vm_states.specs.vm_fetching.Instructions as fetched
 use Rattle.state_values.specs.Operators.{visits_binary}
 use Rattle.state_values.proofs.Ending as ending
 use Rattle.state_values.proofs.Finding as finding
@@ -30,7 +30,7 @@ returns g c =
     let two = finding.two c.requires.runs c.tops_law.ensures.two c.requires.runs.ready.finds.1 in
     let visits = visits_binary texts tuples c.args.arena.now calls c.args.number in
     record {
-      acts = ending.puts c.acting_law.ensures.acts (record { instruction = fetched.Binary c.args.number; end = c.args.end }) (λ p s row r. r.begins tt) visits (Plain (instrs.Binary c.args.number)) c.args.frames.now c.binary_op.new.frames
+      acts = ending.puts c.acting_law.ensures.acts (record { instruction = fetched.binary c.args.number; end = c.args.end }) (λ p s row r. r.begins tt) visits (Plain (instrs.Binary c.args.number)) c.args.frames.now c.binary_op.new.frames
           c.binary_op.ensures.leaves (λ p d tells. refl)
           (subst (λ (n : ℕ). Steps texts tuples (Plain (instrs.Binary c.args.number)) n c.args.end c.args.arena.now c.binary_op.new.arena calls c.binary_op.new.frames.calls c.binary_op.result)
           (sym (visiting.visits_are texts tuples c.args.arena.now c.args.number two.1.0 two.0.0 calls two.1.1 two.0.1)) (c.binary_op.ensures.steps two.1.0 two.0.0 two.1.1 two.0.1))

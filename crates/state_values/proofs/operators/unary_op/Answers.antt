@@ -2,7 +2,7 @@ use Rattle.std.proofs.Common.{refl, subst, sym}
 use Rattle.std.specs.Prelude.{IsSome}
 use Rattle.vm_states.specs.bc_ops.declared.instr.Instr.TheVariants as instrs
 use Rattle.vm_states.specs.bc_machine.Library.{Plain}
-use Rattle.vm_states.specs.vm_fetching.declared.instruction.Instruction.TheVariants as fetched
+use Rattle.vm_states.specs.vm_fetching.Instructions as fetched
 use Rattle.state_values.proofs.Ending as ending
 use Rattle.state_values.proofs.Finding as finding
 use Rattle.state_values.proofs.operators.unary_op.Goals as goal
@@ -19,6 +19,6 @@ unary_op-requires-clause-all_told g c = finding.all_told c.requires.runs
 pub returns : goal.returns
 returns g c =
     record {
-      acts = ending.puts c.acting_law.ensures.acts (record { instruction = fetched.Unary c.args.number; end = c.args.end }) (λ p s row r. r.begins tt) 0 (Plain (instrs.Unary c.args.number)) c.args.frames.now c.unary_op.new.frames
+      acts = ending.puts c.acting_law.ensures.acts (record { instruction = fetched.unary c.args.number; end = c.args.end }) (λ p s row r. r.begins tt) 0 (Plain (instrs.Unary c.args.number)) c.args.frames.now c.unary_op.new.frames
           c.unary_op.ensures.leaves (λ p d tells. refl) c.unary_op.ensures.steps 1 c.unary_op.ensures.moved;
     }

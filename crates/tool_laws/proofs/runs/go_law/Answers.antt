@@ -1,5 +1,5 @@
 use Rattle.std.proofs.Common.{Some}
-use Rattle.run_commands.specs.Ready.{GoLibrary}
+use Rattle.meant_commands.specs.run_commands.Ready.{GoLibrary}
 use Rattle.tool_laws.proofs.Running.{alike, one_run}
 use Rattle.tool_laws.proofs.runs.go_law.Goals as goal
 

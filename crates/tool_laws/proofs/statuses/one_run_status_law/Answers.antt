@@ -1,6 +1,6 @@
-use Rattle.run_commands.specs.Ready.{GoLibrary, RunLibrary}
-use Rattle.run_commands.specs.Stress.{stress_files, stress_name}
-use Rattle.run_commands.specs.Run.{EndsRun}
+use Rattle.meant_commands.specs.run_commands.Ready.{GoLibrary, RunLibrary}
+use Rattle.meant_commands.specs.run_commands.Stress.{stress_files, stress_name}
+use Rattle.meant_commands.specs.run_commands.Run.{EndsRun}
 use Rattle.tool_laws.proofs.Based.{run_over_once}
 use Rattle.tool_laws.proofs.Settling.{run_once}
 use Rattle.tool_laws.proofs.Stressing.{one_stress}

@@ -1,76 +1,17 @@
-use Rattle.std.proofs.Common.{ℤ, sym, subst, rules, SFits, w32}
-use Rattle.std.proofs.lemmas.Int.{to_z-of_z}
-use Rattle.state_values.specs.vm_fetching.declared.instruction.Instruction.TheVariants as fetched
-use Rattle.state_values.specs.vm_states.Acting.{RunsOver}
-use Rattle.state_values.specs.Keeping.{ActsKeeping}
-use Rattle.vm_at_once.proofs.Done.{at_once}
+use Rattle.std.proofs.Common.{◌∙◌, ap}
+use Rattle.state_values.specs.vm_fetching.declared.instruction.Action.{Action}
+use Rattle.state_values.specs.vm_fetching.Instructions as fetched
 use Rattle.vm_at_once.proofs.Forms.{runs_at, acts_at}
 use Rattle.vm_at_once.proofs.acting.act_at_once.Goals as goal
 
-pub plain_at_once-requires : goal.plain_at_once-requires
-plain_at_once-requires g c = record { runs = runs_at (g.C.Constants.text_of c.args.consts.now) (g.C.Constants.items_of c.args.consts.now) c.args.fetched (fetched.Plain c.in-Plain.op) c.in-Plain.is c.args.arena.now c.args.frames.now c.requires.runs }
+pub step_at_once-requires : goal.step_at_once-requires
+step_at_once-requires g c = record { runs = runs_at (g.C.Constants.text_of c.args.consts.now) (g.C.Constants.items_of c.args.consts.now) c.args.fetched (fetched.stays c.in-Stays.step) (c.in-Acts.is ∙ ap (λ (a : Action). fetched.acts a) c.in-Stays.is) c.args.arena.now c.args.frames.now c.requires.runs }
 
-pub returns-in-Plain : goal.returns-in-Plain
-returns-in-Plain g c = record { acts = acts_at (g.C.Constants.text_of c.args.consts.now) (g.C.Constants.items_of c.args.consts.now) c.args.fetched (fetched.Plain c.in-Plain.op) c.in-Plain.is c.args.arena.now c.args.frames.now c.plain_at_once.new.frames c.plain_at_once.result c.plain_at_once.ensures }
-
-pub local_at_once-requires : goal.local_at_once-requires
-local_at_once-requires g c = record { runs = runs_at (g.C.Constants.text_of c.args.consts.now) (g.C.Constants.items_of c.args.consts.now) c.args.fetched (fetched.Number c.in-Number.op c.in-Number.n) c.in-Number.is c.args.arena.now c.args.frames.now c.requires.runs }
-
-pub returns-in-Number : goal.returns-in-Number
-returns-in-Number g c = record { acts = acts_at (g.C.Constants.text_of c.args.consts.now) (g.C.Constants.items_of c.args.consts.now) c.args.fetched (fetched.Number c.in-Number.op c.in-Number.n) c.in-Number.is c.args.arena.now c.args.frames.now c.local_at_once.new.frames c.local_at_once.result c.local_at_once.ensures }
+pub returns-in-Stays : goal.returns-in-Stays
+returns-in-Stays g c = record { acts = acts_at (g.C.Constants.text_of c.args.consts.now) (g.C.Constants.items_of c.args.consts.now) c.args.fetched (fetched.stays c.in-Stays.step) (c.in-Acts.is ∙ ap (λ (a : Action). fetched.acts a) c.in-Stays.is) c.args.arena.now c.args.frames.now c.step_at_once.new.frames c.step_at_once.result c.step_at_once.ensures.acts }
 
 pub binary_at_once-requires : goal.binary_at_once-requires
-binary_at_once-requires g c = record { runs = runs_at (g.C.Constants.text_of c.args.consts.now) (g.C.Constants.items_of c.args.consts.now) c.args.fetched (fetched.Binary c.in-Binary.number) c.in-Binary.is c.args.arena.now c.args.frames.now c.requires.runs }
+binary_at_once-requires g c = record { runs = runs_at (g.C.Constants.text_of c.args.consts.now) (g.C.Constants.items_of c.args.consts.now) c.args.fetched (fetched.binary c.in-Binary.number) c.in-Binary.is c.args.arena.now c.args.frames.now c.requires.runs }
 
 pub returns-in-Binary : goal.returns-in-Binary
-returns-in-Binary g c = record { acts = acts_at (g.C.Constants.text_of c.args.consts.now) (g.C.Constants.items_of c.args.consts.now) c.args.fetched (fetched.Binary c.in-Binary.number) c.in-Binary.is c.args.arena.now c.args.frames.now c.binary_at_once.new.frames c.binary_at_once.result c.binary_at_once.ensures }
-
-pub name_at_once-requires : goal.name_at_once-requires
-name_at_once-requires g c = record { runs = runs_at (g.C.Constants.text_of c.args.consts.now) (g.C.Constants.items_of c.args.consts.now) c.args.fetched (fetched.Name c.in-Name.op c.in-Name.text) c.in-Name.is c.args.arena.now c.args.frames.now c.requires.runs }
-
-pub returns-in-Name : goal.returns-in-Name
-returns-in-Name g c = record { acts = acts_at (g.C.Constants.text_of c.args.consts.now) (g.C.Constants.items_of c.args.consts.now) c.args.fetched (fetched.Name c.in-Name.op c.in-Name.text) c.in-Name.is c.args.arena.now c.args.frames.now c.name_at_once.new.frames c.name_at_once.result c.name_at_once.ensures }
-
-pub jump_at_once-requires : goal.jump_at_once-requires
-jump_at_once-requires g c = record { runs = runs_at (g.C.Constants.text_of c.args.consts.now) (g.C.Constants.items_of c.args.consts.now) c.args.fetched (fetched.Jump c.in-Jump.op c.in-Jump.target) c.in-Jump.is c.args.arena.now c.args.frames.now c.requires.runs }
-
-pub returns-in-Jump : goal.returns-in-Jump
-returns-in-Jump g c = record { acts = acts_at (g.C.Constants.text_of c.args.consts.now) (g.C.Constants.items_of c.args.consts.now) c.args.fetched (fetched.Jump c.in-Jump.op c.in-Jump.target) c.in-Jump.is c.args.arena.now c.args.frames.now c.jump_at_once.new.frames c.jump_at_once.result c.jump_at_once.ensures }
-
-pub load_int-requires : goal.load_int-requires
-load_int-requires g c =
-    let fits : SFits w32 c.in-Int.n = search rules in
-    record {
-      runs = subst (λ (z : ℤ). RunsOver (g.C.Constants.text_of c.args.consts.now) (g.C.Constants.items_of c.args.consts.now) c.args.arena.now c.args.frames.now (record { instruction = fetched.Int z; end = c.args.fetched.end })) (sym (to_z-of_z w32 c.in-Int.n fits))
-          (runs_at (g.C.Constants.text_of c.args.consts.now) (g.C.Constants.items_of c.args.consts.now) c.args.fetched (fetched.Int c.in-Int.n) c.in-Int.is c.args.arena.now c.args.frames.now c.requires.runs);
-    }
-
-pub returns-in-Int : goal.returns-in-Int
-returns-in-Int g c =
-    let fits : SFits w32 c.in-Int.n = search rules in
-    record {
-      acts = acts_at (g.C.Constants.text_of c.args.consts.now) (g.C.Constants.items_of c.args.consts.now) c.args.fetched (fetched.Int c.in-Int.n) c.in-Int.is c.args.arena.now c.args.frames.now c.load_int.new.frames c.done.result
-          (at_once (g.C.Constants.text_of c.args.consts.now) (g.C.Constants.items_of c.args.consts.now) (record { instruction = fetched.Int c.in-Int.n; end = c.args.fetched.end }) c.args.arena.now c.args.frames.now c.load_int.new.frames c.load_int.result c.done.result c.done.ensures
-          (subst (λ (z : ℤ). ActsKeeping (g.C.Constants.text_of c.args.consts.now) (g.C.Constants.items_of c.args.consts.now) (record { instruction = fetched.Int z; end = c.args.fetched.end }) 0 c.args.arena.now c.args.arena.now c.args.frames.now c.load_int.new.frames c.load_int.result)
-          (to_z-of_z w32 c.in-Int.n fits) c.load_int.ensures.acts));
-    }
-
-pub load_object-requires : goal.load_object-requires
-load_object-requires g c = record { runs = runs_at (g.C.Constants.text_of c.args.consts.now) (g.C.Constants.items_of c.args.consts.now) c.args.fetched (fetched.Object c.in-Object.v) c.in-Object.is c.args.arena.now c.args.frames.now c.requires.runs }
-
-pub returns-in-Object : goal.returns-in-Object
-returns-in-Object g c =
-    record {
-      acts = acts_at (g.C.Constants.text_of c.args.consts.now) (g.C.Constants.items_of c.args.consts.now) c.args.fetched (fetched.Object c.in-Object.v) c.in-Object.is c.args.arena.now c.args.frames.now c.load_object.new.frames c.done-in-Object.result
-          (at_once (g.C.Constants.text_of c.args.consts.now) (g.C.Constants.items_of c.args.consts.now) (record { instruction = fetched.Object c.in-Object.v; end = c.args.fetched.end }) c.args.arena.now c.args.frames.now c.load_object.new.frames c.load_object.result c.done-in-Object.result c.done-in-Object.ensures c.load_object.ensures.acts);
-    }
-
-pub unary_op-requires : goal.unary_op-requires
-unary_op-requires g c = record { runs = runs_at (g.C.Constants.text_of c.args.consts.now) (g.C.Constants.items_of c.args.consts.now) c.args.fetched (fetched.Unary c.in-Unary.number) c.in-Unary.is c.args.arena.now c.args.frames.now c.requires.runs }
-
-pub returns-in-Unary : goal.returns-in-Unary
-returns-in-Unary g c =
-    record {
-      acts = acts_at (g.C.Constants.text_of c.args.consts.now) (g.C.Constants.items_of c.args.consts.now) c.args.fetched (fetched.Unary c.in-Unary.number) c.in-Unary.is c.args.arena.now c.args.frames.now c.unary_op.new.frames c.done-in-Unary.result
-          (at_once (g.C.Constants.text_of c.args.consts.now) (g.C.Constants.items_of c.args.consts.now) (record { instruction = fetched.Unary c.in-Unary.number; end = c.args.fetched.end }) c.args.arena.now c.args.frames.now c.unary_op.new.frames c.unary_op.result c.done-in-Unary.result c.done-in-Unary.ensures c.unary_op.ensures.acts);
-    }
+returns-in-Binary g c = record { acts = acts_at (g.C.Constants.text_of c.args.consts.now) (g.C.Constants.items_of c.args.consts.now) c.args.fetched (fetched.binary c.in-Binary.number) c.in-Binary.is c.args.arena.now c.args.frames.now c.binary_at_once.new.frames c.binary_at_once.result c.binary_at_once.ensures }

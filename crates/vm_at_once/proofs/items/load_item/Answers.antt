@@ -9,8 +9,8 @@ use Rattle.state_values.specs.bc_progress.bc_ops.declared.instr.Instr.TheVariant
 use Rattle.state_values.specs.bc_progress.bc_machine.Library.{Plain}
 use Rattle.state_values.specs.vm_frames.Calls.{Call}
 use Rattle.state_values.proofs.frame_moves_lemmas.Stepping.{weaker}
-use Rattle.state_values.specs.vm_fetching.declared.operations.PlainOp.TheVariants as plain_ops
-use Rattle.state_values.specs.Moving.{fetched_plain}
+use Rattle.state_values.specs.vm_fetching.declared.operations.ItemOp.TheVariants as item_ops
+use Rattle.state_values.specs.Moving.{fetched_item}
 use Rattle.vm_at_once.proofs.Ending as ending
 use Rattle.vm_at_once.proofs.Finding as finding
 use Rattle.vm_at_once.proofs.Indexing as indexing
@@ -47,7 +47,7 @@ returns-in-Some-item_in g c =
     subst (λ (z : ℤ). IsOutcome texts tuples heap heap (Ok v) (get_item (plain_heap texts tuples heap) (plain texts tuples object) (plain texts tuples (values.Int z)))) (to_z-of_z w32 c.in-Some.number fits) c.in-Some-item_in.ensures in
     let steps = indexing.steps texts tuples heap old new c.args.end object index v given c.in-Some.ensures.list c.in-Some.ensures.number c.put.ensures in
     let puts = indexing.puts texts tuples heap old new c.args.end object index v given c.in-Some.ensures.list c.in-Some.ensures.number c.put.ensures in (
-      ending.puts c.acting_law.ensures.acts (fetched_plain plain_ops.LoadSubscr c.args.end) (λ p s row r. r.begins tt) 0 (Plain (instrs.Plain ops.LoadSubscr)) old new
+      ending.puts c.acting_law.ensures.acts (fetched_item item_ops.LoadSubscr c.args.end) (λ p s row r. r.begins tt) 0 (Plain (instrs.Plain ops.LoadSubscr)) old new
           (finding.leaves_same c.requires.runs) (λ p d tells. refl) steps 2 puts,
       omega arith,
     )

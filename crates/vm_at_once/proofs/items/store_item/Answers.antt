@@ -7,8 +7,8 @@ use Rattle.state_values.specs.bc_progress.bc_machine.Library.{Plain}
 use Rattle.state_values.specs.bc_progress.py_primitives.Iterables.{place_at}
 use Rattle.state_values.specs.vm_frames.Calls.{Call}
 use Rattle.state_values.proofs.frame_moves_lemmas.Stepping.{weaker}
-use Rattle.state_values.specs.vm_fetching.declared.operations.PlainOp.TheVariants as plain_ops
-use Rattle.state_values.specs.Moving.{fetched_plain}
+use Rattle.state_values.specs.vm_fetching.declared.operations.ItemOp.TheVariants as item_ops
+use Rattle.state_values.specs.Moving.{fetched_item}
 use Rattle.vm_at_once.proofs.Ending as ending
 use Rattle.vm_at_once.proofs.Finding as finding
 use Rattle.vm_at_once.proofs.Indexing as indexing
@@ -59,6 +59,6 @@ returns-in-Some-front_place-clause-done g c done =
     let place = subst (λ (z : ℤ). place_at c.list_len.result z ≡ Some c.in-Some-front_place.at) (to_z-of_z w32 number fits) c.in-Some-front_place.ensures.place in
     let given = c.put_item.ensures number (subst (λ (n : ℕ). place_at n number ≡ Some c.in-Some-front_place.at) c.list_len.ensures place) in
     let steps = indexing.sets texts tuples heap behind old new c.args.end object index v given c.in-Some.ensures.number c.in-Some.ensures.list c.in-Some-third_value.ensures c.drop_three.ensures in
-    ending.takes c.acting_law.ensures.acts (fetched_plain plain_ops.StoreSubscr c.args.end) (λ p s row r. r.begins tt) 0 (Plain (instrs.Plain ops.StoreSubscr)) old new
+    ending.takes c.acting_law.ensures.acts (fetched_item item_ops.StoreSubscr c.args.end) (λ p s row r. r.begins tt) 0 (Plain (instrs.Plain ops.StoreSubscr)) old new
     (indexing.leaves texts tuples heap behind old new c.args.end object index v given c.in-Some.ensures.number c.in-Some.ensures.list c.in-Some-third_value.ensures c.drop_three.ensures)
     (λ p d tells. refl) steps 3 refl c.drop_three.ensures

@@ -3,7 +3,7 @@ use Rattle.state_values.specs.bc_progress.bc_ops.declared.instr.Op.TheVariants a
 use Rattle.state_values.specs.prim_assignments.arena_heap.declared.value.StrNo.{StrNo}
 use Rattle.state_values.specs.prim_assignments.arena_objects.Iterables.{or_nothing}
 use Rattle.state_values.specs.bc_progress.bc_machine.Library.{Names}
-use Rattle.state_values.specs.vm_fetching.declared.instruction.Instruction.TheVariants as fetched
+use Rattle.state_values.specs.vm_fetching.Instructions as fetched
 use Rattle.state_values.specs.vm_fetching.declared.operations.NameOp.TheVariants as name_ops
 use Rattle.vm_at_once.proofs.Ending as ending
 use Rattle.vm_at_once.proofs.Finding as finding
@@ -24,6 +24,6 @@ load_name-requires-clause-all_told g c = finding.all_told c.requires.runs
 
 pub returns : goal.returns
 returns g c =
-    at_once (g.C.Constants.text_of c.args.consts.now) (g.C.Constants.items_of c.args.consts.now) (record { instruction = fetched.Name name_ops.LoadName c.args.name; end = c.args.end }) c.args.arena.now c.args.frames.now c.load_name.new.frames c.load_name.result c.done.result c.done.ensures
-    (ending.puts c.acting_law.ensures.acts (record { instruction = fetched.Name name_ops.LoadName c.args.name; end = c.args.end }) (λ p s row r. r.begins tt) 0 (Names ops.LoadName (or_nothing (g.C.Constants.text_of c.args.consts.now c.args.name))) c.args.frames.now c.load_name.new.frames
+    at_once (g.C.Constants.text_of c.args.consts.now) (g.C.Constants.items_of c.args.consts.now) (record { instruction = fetched.name name_ops.LoadName c.args.name; end = c.args.end }) c.args.arena.now c.args.frames.now c.load_name.new.frames c.load_name.result c.done.result c.done.ensures
+    (ending.puts c.acting_law.ensures.acts (record { instruction = fetched.name name_ops.LoadName c.args.name; end = c.args.end }) (λ p s row r. r.begins tt) 0 (Names ops.LoadName (or_nothing (g.C.Constants.text_of c.args.consts.now c.args.name))) c.args.frames.now c.load_name.new.frames
     c.load_name.ensures.leaves (λ p d tells. ap (λ (t : StrNo → Option (List ℕ)). Names ops.LoadName (or_nothing (t c.args.name))) tells.texts_are) c.load_name.ensures.name 0 c.load_name.ensures.moved)

@@ -4,7 +4,7 @@ use Rattle.state_values.specs.bc_progress.bc_ops.declared.instr.Instr.TheVariant
 use Rattle.state_values.specs.bc_progress.bc_machine.Library.{Plain}
 use Rattle.state_values.specs.vm_frames.Calls.{Call}
 use Rattle.state_values.proofs.frame_moves_lemmas.Stepping.{weaker}
-use Rattle.state_values.specs.vm_fetching.declared.instruction.Instruction.TheVariants as fetched
+use Rattle.state_values.specs.vm_fetching.Instructions as fetched
 use Rattle.vm_at_once.proofs.Ending as ending
 use Rattle.vm_at_once.proofs.Finding as finding
 use Rattle.vm_at_once.proofs.Operating as operating
@@ -36,7 +36,7 @@ returns-in-Some-answer g c =
     let told = finding.all_told c.requires.runs in
     let steps = operating.steps texts tuples heap old new c.args.number c.args.end left right _ _ v visits (to_z-of_z w32 left fits_left) (to_z-of_z w32 right fits_right) c.in-Some-answer.ensures told c.in-Some.ensures.left c.in-Some.ensures.right c.put.ensures in
     let puts = operating.puts texts tuples heap old new c.args.number c.args.end left right _ _ v visits (to_z-of_z w32 left fits_left) (to_z-of_z w32 right fits_right) c.in-Some-answer.ensures told c.in-Some.ensures.left c.in-Some.ensures.right c.put.ensures in (
-      ending.puts c.acting_law.ensures.acts (record { instruction = fetched.Binary c.args.number; end = c.args.end }) (λ p s row r. r.begins tt) visits (Plain (instrs.Binary c.args.number)) old new
+      ending.puts c.acting_law.ensures.acts (record { instruction = fetched.binary c.args.number; end = c.args.end }) (λ p s row r. r.begins tt) visits (Plain (instrs.Binary c.args.number)) old new
           (finding.leaves_same c.requires.runs) (λ p d tells. refl) steps 2 puts,
       c.in-Some-answer.ensures.few,
     )

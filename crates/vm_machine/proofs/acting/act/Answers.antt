@@ -1,69 +1,47 @@
-use Rattle.std.proofs.Common.{refl, subst}
-use Rattle.state_steps.specs.prim_faults.arena_heap.declared.value.StrNo.TheVariants as strs
-use Rattle.vm_kept.specs.state_calls.vm_fetching.declared.instruction.Instruction.TheVariants as fetched
-use Rattle.vm_kept.specs.state_calls.vm_fetching.declared.operations.NameOp.TheVariants as name_ops
-use Rattle.vm_kept.specs.state_calls.vm_fetching.declared.operations.NumberOp.TheVariants as number_ops
-use Rattle.vm_kept.specs.state_calls.vm_fetching.declared.operations.PlainOp.TheVariants as plain_ops
-use Rattle.vm_machine.specs.Forms.{HasForm, IsNoCall}
-use Rattle.vm_machine.proofs.Fetched.{at_form, without_any}
+use Rattle.std.proofs.Common.{ap}
+use Rattle.vm_kept.specs.state_calls.vm_fetching.declared.instruction.Action.{Action}
+use Rattle.vm_kept.specs.state_calls.vm_fetching.Instructions as fetched
+use Rattle.vm_machine.proofs.Fetched.{at_form}
 use Rattle.vm_machine.proofs.acting.act.Goals as goal
 
-pub operate_on-requires-clause-values : goal.operate_on-requires-clause-values
-operate_on-requires-clause-values c = subst (HasForm c.args.fetched.instruction) c.in-Operates.is c.requires.form
+pub operate_on-requires : goal.operate_on-requires
+operate_on-requires c = record { fetched = at_form c.args.library.now c.args.vm.now c.args.row.now (record { instruction = fetched.acts c.args.action; end = c.args.end }) c.requires.fetched (fetched.stays c.in-Stays.step) (ap (λ (a : Action). fetched.acts a) c.in-Stays.is) }
 
-pub operate_on-requires-clause-fetched : goal.operate_on-requires-clause-fetched
-operate_on-requires-clause-fetched c = c.requires.fetched
-
-pub returns-in-Operates : goal.returns-in-Operates
-returns-in-Operates c = c.operate_on.ensures
-
-pub unreachable-requires : goal.unreachable-requires
-unreachable-requires c = subst IsNoCall c.in-Calls.is c.requires.no_call
-
-pub leave_on-requires-clause-leaves : goal.leave_on-requires-clause-leaves
-leave_on-requires-clause-leaves c = (subst (HasForm c.args.fetched.instruction) c.in-Leaves.is c.requires.form).1
+pub returns-in-Stays : goal.returns-in-Stays
+returns-in-Stays c = c.operate_on.ensures
 
 pub leave_on-requires-clause-fetched : goal.leave_on-requires-clause-fetched
-leave_on-requires-clause-fetched c = at_form c.args.library.now c.args.vm.now c.args.row.now c.args.fetched c.requires.fetched (fetched.Plain c.in-Leaves.op) ((subst (HasForm c.args.fetched.instruction) c.in-Leaves.is c.requires.form).0)
+leave_on-requires-clause-fetched c = at_form c.args.library.now c.args.vm.now c.args.row.now (record { instruction = fetched.acts c.args.action; end = c.args.end }) c.requires.fetched (fetched.leave c.in-Leaves.op) (ap (λ (a : Action). fetched.acts a) c.in-Leaves.is)
 
 pub leave_on-requires-clause-rows : goal.leave_on-requires-clause-rows
 leave_on-requires-clause-rows c = c.requires.rows
 
 pub returns-in-Leaves : goal.returns-in-Leaves
-returns-in-Leaves c = without_any c.args.library.now c.args.vm.now c.leave_on.new.vm c.args.fetched (fetched.Plain c.in-Leaves.op) ((subst (HasForm c.args.fetched.instruction) c.in-Leaves.is c.requires.form).0) refl c.leave_on.ensures
+returns-in-Leaves c = c.leave_on.ensures
 
 pub finish_on-requires-clause-fetched : goal.finish_on-requires-clause-fetched
-finish_on-requires-clause-fetched c = at_form c.args.library.now c.args.vm.now c.args.row.now c.args.fetched c.requires.fetched (fetched.Plain plain_ops.EndFinally) ((subst (HasForm c.args.fetched.instruction) c.in-Finishes.is c.requires.form))
+finish_on-requires-clause-fetched c = at_form c.args.library.now c.args.vm.now c.args.row.now (record { instruction = fetched.acts c.args.action; end = c.args.end }) c.requires.fetched (fetched.finish) (ap (λ (a : Action). fetched.acts a) c.in-Finishes.is)
 
 pub finish_on-requires-clause-rows : goal.finish_on-requires-clause-rows
 finish_on-requires-clause-rows c = c.requires.rows
 
 pub returns-in-Finishes : goal.returns-in-Finishes
-returns-in-Finishes c = without_any c.args.library.now c.args.vm.now c.finish_on.new.vm c.args.fetched (fetched.Plain plain_ops.EndFinally) ((subst (HasForm c.args.fetched.instruction) c.in-Finishes.is c.requires.form)) refl c.finish_on.ensures
+returns-in-Finishes c = c.finish_on.ensures
 
-pub make_on-requires-clause-fetched : goal.make_on-requires-clause-fetched
-make_on-requires-clause-fetched c = at_form c.args.library.now c.args.vm.now c.args.row.now c.args.fetched c.requires.fetched (fetched.Number number_ops.MakeFunction c.in-Makes.number) ((subst (HasForm c.args.fetched.instruction) c.in-Makes.is c.requires.form))
+pub make_by-requires-clause-fetched : goal.make_by-requires-clause-fetched
+make_by-requires-clause-fetched c = at_form c.args.library.now c.args.vm.now c.args.row.now (record { instruction = fetched.acts c.args.action; end = c.args.end }) c.requires.fetched (fetched.make c.in-Makes.op c.in-Makes.number) (ap (λ (a : Action). fetched.acts a) c.in-Makes.is)
 
-pub make_on-requires-clause-rows : goal.make_on-requires-clause-rows
-make_on-requires-clause-rows c = c.requires.rows
+pub make_by-requires-clause-rows : goal.make_by-requires-clause-rows
+make_by-requires-clause-rows c = c.requires.rows
 
 pub returns-in-Makes : goal.returns-in-Makes
-returns-in-Makes c = without_any c.args.library.now c.args.vm.now c.make_on.new.vm c.args.fetched (fetched.Number number_ops.MakeFunction c.in-Makes.number) ((subst (HasForm c.args.fetched.instruction) c.in-Makes.is c.requires.form)) refl c.make_on.ensures
-
-pub make_with_on-requires-clause-fetched : goal.make_with_on-requires-clause-fetched
-make_with_on-requires-clause-fetched c = at_form c.args.library.now c.args.vm.now c.args.row.now c.args.fetched c.requires.fetched (fetched.Number number_ops.MakeFunctionDefargs c.in-MakesWith.number) ((subst (HasForm c.args.fetched.instruction) c.in-MakesWith.is c.requires.form))
-
-pub make_with_on-requires-clause-rows : goal.make_with_on-requires-clause-rows
-make_with_on-requires-clause-rows c = c.requires.rows
-
-pub returns-in-MakesWith : goal.returns-in-MakesWith
-returns-in-MakesWith c = without_any c.args.library.now c.args.vm.now c.make_with_on.new.vm c.args.fetched (fetched.Number number_ops.MakeFunctionDefargs c.in-MakesWith.number) ((subst (HasForm c.args.fetched.instruction) c.in-MakesWith.is c.requires.form)) refl c.make_with_on.ensures
+returns-in-Makes c = c.make_by.ensures
 
 pub import_on-requires-clause-fetched : goal.import_on-requires-clause-fetched
-import_on-requires-clause-fetched c = at_form c.args.library.now c.args.vm.now c.args.row.now c.args.fetched c.requires.fetched (fetched.Name name_ops.ImportName (strs.Pool c.in-Imports.name)) ((subst (HasForm c.args.fetched.instruction) c.in-Imports.is c.requires.form))
+import_on-requires-clause-fetched c = at_form c.args.library.now c.args.vm.now c.args.row.now (record { instruction = fetched.acts c.args.action; end = c.args.end }) c.requires.fetched (fetched.imports c.in-Imports.name) (ap (λ (a : Action). fetched.acts a) c.in-Imports.is)
 
 pub import_on-requires-clause-rows : goal.import_on-requires-clause-rows
 import_on-requires-clause-rows c = c.requires.rows
 
 pub returns-in-Imports : goal.returns-in-Imports
-returns-in-Imports c = without_any c.args.library.now c.args.vm.now c.import_on.new.vm c.args.fetched (fetched.Name name_ops.ImportName (strs.Pool c.in-Imports.name)) ((subst (HasForm c.args.fetched.instruction) c.in-Imports.is c.requires.form)) refl c.import_on.ensures
+returns-in-Imports c = c.import_on.ensures

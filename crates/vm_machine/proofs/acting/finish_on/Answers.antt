@@ -1,6 +1,5 @@
 use Rattle.std.proofs.Common.{refl}
-use Rattle.vm_kept.specs.state_calls.vm_fetching.declared.operations.PlainOp.TheVariants as plain_ops
-use Rattle.vm_kept.specs.state_exits.Running.{fetched_plain}
+use Rattle.vm_kept.specs.state_exits.Running.{fetched_finish}
 use Rattle.vm_machine.proofs.Fetched.{in_program, runs_with}
 use Rattle.vm_machine.proofs.acting.finish_on.Goals as goal
 
@@ -11,7 +10,7 @@ finish-ended-requires-clause-runs c =
     let of = h.is_program in
     let r = h.is_vm.runs h.goes_on p of in (
       c.args.row.now,
-      runs_with c.args.library.now c.args.vm.now c.args.row.now (fetched_plain plain_ops.EndFinally c.args.end) c.requires.fetched c.deref.result.now c.deref.ensures.value,
+      runs_with c.args.library.now c.args.vm.now c.args.row.now (fetched_finish c.args.end) c.requires.fetched c.deref.result.now c.deref.ensures.value,
       c.cause_law.ensures p c.args.vm.now.arena.objects c.args.vm.now.frames c.args.row.now c.args.end of.means r.state (h.ready p of) r.kept,
     )
 
@@ -25,7 +24,7 @@ returns c =
       comes = λ p of.
           (let r = h.is_vm.runs h.goes_on p of in
           let cause = c.cause_law.ensures p c.args.vm.now.arena.objects c.args.vm.now.frames c.args.row.now c.args.end of.means r.state (h.ready p of) r.kept in
-          in_program c.args.library.now c.args.vm.now c.args.row.now (fetched_plain plain_ops.EndFinally c.args.end) c.requires.fetched p of c.deref.result.now c.deref.ensures.value (c.finish-ended.ensures.comes p c.args.row.now of.shelf_is cause));
+          in_program c.args.library.now c.args.vm.now c.args.row.now (fetched_finish c.args.end) c.requires.fetched p of c.deref.result.now c.deref.ensures.value (c.finish-ended.ensures.comes p c.args.row.now of.shelf_is cause));
       memory = record { frames = c.finish-ended.ensures.rooms; modules = c.finish-ended.ensures.registry; names = refl; operands = refl; bindings = refl; items = refl };
       paid = refl;
     }

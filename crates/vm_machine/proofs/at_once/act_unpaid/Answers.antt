@@ -1,19 +1,16 @@
-use Rattle.std.proofs.Common.{subst}
-use Rattle.bc_library.specs.Constants.{items_at, text_at}
-use Rattle.vm_machine.specs.Acting.{Acted}
-use Rattle.vm_machine.proofs.AtOnce.{carried_unpaid, left}
+use Rattle.vm_kept.specs.state_calls.vm_fetching.Instructions as fetched
+use Rattle.vm_machine.proofs.AtOnce.{left}
+use Rattle.vm_machine.proofs.Fetched.{at_form}
 use Rattle.vm_machine.proofs.at_once.act_unpaid.Goals as goal
 
-pub unpaid_form-requires : goal.unpaid_form-requires
-unpaid_form-requires c =
-    let h = c.requires.fetched.1 in (h.program.shelf, (h.ready h.program h.is_program).text)
+pub step_act-requires-clause-fetched : goal.step_act-requires-clause-fetched
+step_act-requires-clause-fetched c =
+    at_form c.args.library.now c.args.vm.now c.row_of-row.result.now c.args.fetched c.row_of-row.ensures (fetched.acts c.in-Acts.action) c.in-Acts.is
 
-pub returns-in-Some-clause-stepped : goal.returns-in-Some-clause-stepped
-returns-in-Some-clause-stepped c =
-    carried_unpaid c.args.library.now c.row_of-row.result.now c.args.fetched c.args.vm.now c.row_of-row.ensures c.requires.unpaid c.act.new.vm
-    (subst (λ (n : _). Acted c.args.library.now n c.args.vm.now c.act.new.vm) (c.in-Some.ensures.no_visits (text_at c.args.library.now) (items_at c.args.library.now) c.args.vm.now.arena c.args.vm.now.frames.calls) c.act.ensures)
-    c.step_law.ensures
+pub returns-in-Binary-clause-stepped : goal.returns-in-Binary-clause-stepped
+returns-in-Binary-clause-stepped c =
+    let h = c.requires.fetched in left c.args.library.now h.0 c.args.fetched c.args.vm.now h.1
 
-pub returns-in-None-clause-stepped : goal.returns-in-None-clause-stepped
-returns-in-None-clause-stepped c =
+pub returns-in-Calls-clause-stepped : goal.returns-in-Calls-clause-stepped
+returns-in-Calls-clause-stepped c =
     let h = c.requires.fetched in left c.args.library.now h.0 c.args.fetched c.args.vm.now h.1

@@ -3,9 +3,6 @@ use Rattle.state_steps.specs.vm_frames.py_effects.Ends.{new_world}
 use Rattle.vm_machine.proofs.Opened.{starts_at, opened}
 use Rattle.vm_machine.proofs.opening.open.Goals as goal
 
-pub open-requires-clause-runnable : goal.open-requires-clause-runnable
-open-requires-clause-runnable c = c.requires.runnable
-
 pub open-requires-clause-rows : goal.open-requires-clause-rows
 open-requires-clause-rows c = c.requires.rows
 
@@ -19,7 +16,7 @@ returns-in-Ok-clause-starts c p name ports of name_is =
 pub returns-in-Ok-clause-vm : goal.returns-in-Ok-clause-vm
 returns-in-Ok-clause-vm c =
     let few = c.library_law.ensures.few in
-    opened c.args.library.now c.args.number c.args.room c.in-Ok.vm c.registered_law.ensures.begins c.begins_law.ensures.one c.requires.runnable (omega (arith, few)) c.in-Ok.ensures.memory c.in-Ok.ensures.state c.in-Ok.ensures.begun c.in-Ok.ensures.ended c.in-Ok.ensures.all_told
+    opened c.args.library.now c.args.number c.args.room c.in-Ok.vm c.registered_law.ensures.begins c.begins_law.ensures.one c.runnable_law.ensures (omega (arith, few)) c.in-Ok.ensures.memory c.in-Ok.ensures.state c.in-Ok.ensures.begun c.in-Ok.ensures.ended c.in-Ok.ensures.all_told
 
 pub returns-in-Ok-clause-paid : goal.returns-in-Ok-clause-paid
 returns-in-Ok-clause-paid c = c.in-Ok.ensures.paid

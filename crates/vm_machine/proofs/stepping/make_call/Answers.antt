@@ -5,9 +5,6 @@ use Rattle.vm_machine.proofs.Fetched.{few, in_program, in_ready, runs_with}
 use Rattle.vm_machine.proofs.Moves.{Laws, went_kept}
 use Rattle.vm_machine.proofs.stepping.make_call.Goals as goal
 
-pub call-requires-clause-calls : goal.call-requires-clause-calls
-call-requires-clause-calls g c = c.requires.calls
-
 pub call-requires-clause-runs : goal.call-requires-clause-runs
 call-requires-clause-runs g c = runs_with c.args.library.now c.args.vm.now c.args.row.now (at_call c.args.op c.args.number c.args.end) c.requires.fetched c.deref.result.now c.deref.ensures.value
 
@@ -43,7 +40,7 @@ returns-in-Ok-clause-kept g c goes_on p of =
     let h = c.requires.fetched in
     let laws : Laws = record { step = c.step_law.ensures; raise = c.raises_law.ensures; give = c.gives_law.ensures } in
     let on = in_program c.args.library.now c.args.vm.now c.args.row.now (at_call c.args.op c.args.number c.args.end) c.requires.fetched p of c.deref.result.now c.deref.ensures.value (c.in-Ok.ensures.comes p of.shelf_is) in
-    went_kept laws p of.means c.args.row.now c.args.op c.args.number c.args.end c.args.invocation.size c.requires.calls c.requires.taken.size c.args.vm.now.arena c.call.new.arena c.args.vm.now.modules c.call.new.modules c.args.vm.now.frames c.call.new.frames
+    went_kept laws p of.means c.args.row.now c.args.op c.args.number c.args.end c.args.invocation.size c.requires.taken.size c.args.vm.now.arena c.call.new.arena c.args.vm.now.modules c.call.new.modules c.args.vm.now.frames c.call.new.frames
     (h.ready p of) (h.is_vm.runs h.goes_on p of).kept on.objects c.in-Ok.ended
     (in_ready c.args.library.now c.args.vm.now c.args.row.now (at_call c.args.op c.args.number c.args.end) c.requires.fetched p of c.deref.result.now c.deref.ensures.value (λ r. Went p r.place c.args.end c.args.invocation.size c.args.vm.now.arena c.call.new.arena c.args.vm.now.modules c.call.new.modules c.args.vm.now.frames c.call.new.frames c.in-Ok.ended) (c.in-Ok.ensures.went p of.shelf_is))
     goes_on
@@ -64,7 +61,7 @@ returns-in-Err-clause-kept g c goes_on p of =
     let h = c.requires.fetched in
     let laws : Laws = record { step = c.step_law.ensures; raise = c.raises_law.ensures; give = c.gives_law.ensures } in
     let on = in_program c.args.library.now c.args.vm.now c.args.row.now (at_call c.args.op c.args.number c.args.end) c.requires.fetched p of c.deref.result.now c.deref.ensures.value (c.in-Err.ensures.comes p of.shelf_is) in
-    went_kept laws p of.means c.args.row.now c.args.op c.args.number c.args.end c.args.invocation.size c.requires.calls c.requires.taken.size c.args.vm.now.arena c.call.new.arena c.args.vm.now.modules c.call.new.modules c.args.vm.now.frames c.call.new.frames
+    went_kept laws p of.means c.args.row.now c.args.op c.args.number c.args.end c.args.invocation.size c.requires.taken.size c.args.vm.now.arena c.call.new.arena c.args.vm.now.modules c.call.new.modules c.args.vm.now.frames c.call.new.frames
     (h.ready p of) (h.is_vm.runs h.goes_on p of).kept on.objects None
     (in_ready c.args.library.now c.args.vm.now c.args.row.now (at_call c.args.op c.args.number c.args.end) c.requires.fetched p of c.deref.result.now c.deref.ensures.value (λ r. Went p r.place c.args.end c.args.invocation.size c.args.vm.now.arena c.call.new.arena c.args.vm.now.modules c.call.new.modules c.args.vm.now.frames c.call.new.frames None) (c.in-Err.ensures.went p of.shelf_is))
     refl

@@ -9,9 +9,6 @@ use Rattle.vm_machine.proofs.Machines.{vm_paid}
 use Rattle.vm_machine.proofs.Runs.{from_other, failed_other}
 use Rattle.vm_machine.proofs.stepping.step_call.Goals as goal
 
-pub take_call-invocation-requires-clause-calls : goal.take_call-invocation-requires-clause-calls
-take_call-invocation-requires-clause-calls g c = c.requires.calls
-
 pub take_call-invocation-requires-clause-runs : goal.take_call-invocation-requires-clause-runs
 take_call-invocation-requires-clause-runs g c =
     let m = c.requires.fetched.is_vm.memory in
@@ -46,9 +43,6 @@ steps_before-requires-clause-due g c =
     let h = c.requires.fetched in
     let e = c.visits_call_on-due.ensures h.program (with_modules h.program.tables (new_world 0 0 []) c.args.vm.now.modules) h.is_program.means h.is_program.shelf_is in
     omega (arith, e)
-
-pub make_call-requires-clause-calls : goal.make_call-requires-clause-calls
-make_call-requires-clause-calls g c = c.requires.calls
 
 pub make_call-requires-clause-fetched : goal.make_call-requires-clause-fetched
 make_call-requires-clause-fetched g c = fetched_holding c.args.library.now c.args.vm.now c.args.row.now (at_call c.args.op c.args.number c.args.end) c.requires.fetched c.take_call-invocation.new.operands c.take_call-invocation.ensures.room
