@@ -8,7 +8,7 @@ use Rattle.arena_heap.specs.declared.cells.Cell.{Cell}
 use Rattle.arena_heap.specs.declared.cells.Cell.TheVariants as cells
 use Rattle.qstr_pool.specs.mpy_base.World.{Heap, object}
 use Rattle.qstr_pool.specs.mpy_base.Weights.{Fits}
-use Rattle.arena_heap.specs.Values.{IsWithinRoom, HasFew}
+use Rattle.arena_heap.specs.Values.{IsWithinRoom, HasOwnRoom, HasFew}
 use Rattle.arena_heap.specs.Cells.{heads, first, size, part, decode, Full, value_of, pair_in}
 use Rattle.arena_heap.proofs.Frame.{object_is}
 use Rattle.arena_heap.proofs.Seen.{seen, Invariant}
@@ -23,6 +23,16 @@ pub seen_rooms : (a : Inside) {h : Heap Value ℕ} → Invariant a → seen a �
 seen_rooms a i e n =
     subst (λ (h : Heap Value ℕ). IsWithinRoom (object h.objects n)) e
     (subst IsWithinRoom (sym (object_is a.cells.items a.bytes.items n)) (decoded_room (heads a.cells.items n) _ _ (i.kept.full n)))
+
+decoded_own : (c : Cell) (ps : List Cell) (bs : List ℕ) → Full c → HasOwnRoom (decode c ps bs)
+decoded_own (cells.ListHead r) ps bs f = f.1
+decoded_own (cells.DictHead r) ps bs f = f.1
+decoded_own _ ps bs f = tt
+
+pub seen_own_rooms : (a : Inside) {h : Heap Value ℕ} → Invariant a → seen a ≡ h → (n : ℕ) → HasOwnRoom (object h.objects n)
+seen_own_rooms a i e n =
+    subst (λ (h : Heap Value ℕ). HasOwnRoom (object h.objects n)) e
+    (subst HasOwnRoom (sym (object_is a.cells.items a.bytes.items n)) (decoded_own (heads a.cells.items n) _ _ (i.kept.full n)))
 
 pub seen_left : (a : Inside) {h : Heap Value ℕ} → Invariant a → seen a ≡ h → Fits h 0 0
 seen_left a i e =

@@ -9,6 +9,7 @@ use Rattle.arena_heap.specs.declared.value.ObjectNo.TheVariants as numbers
 use Rattle.qstr_pool.specs.mpy_base.World.{Object, ListObject, TupleObject, TextObject, DictObject, FunctionObject}
 use Rattle.qstr_pool.specs.mpy_base.World.{ExceptionObject, MethodObject, RangeObject, ModuleObject, Objects, ObjectKind, AList}
 use Rattle.qstr_pool.specs.mpy_base.World.{ATuple, AText, ADict, AFunction, AnException, AMethod, ARange, AModule, object, IsA}
+use Rattle.qstr_pool.specs.mpy_base.Weights.{IsRoom}
 
 -- an object of an arena: it has these values, and names by number
 abbrev pub ArenaObject : Type 0
@@ -132,6 +133,12 @@ abbrev pub IsWithinRoom : Option ArenaObject → Type 0
 IsWithinRoom (Some (ListObject items room)) = length items ≤ room
 IsWithinRoom (Some (DictObject pairs room)) = length pairs ≤ room
 IsWithinRoom _ = Unit {0}
+
+-- the room of a list or dict is one that such an object gets: 4, 8, 16 ..
+abbrev pub HasOwnRoom : Option ArenaObject → Type 0
+HasOwnRoom (Some (ListObject items room)) = IsRoom room
+HasOwnRoom (Some (DictObject pairs room)) = IsRoom room
+HasOwnRoom _ = Unit {0}
 
 -- a list, a tuple or a dict has fewer than 2^32 items
 abbrev pub HasFew : Option ArenaObject → Type 0

@@ -3,7 +3,7 @@
 ghost use Rattle.std.specs.Prelude.{◌≡◌, ℕ, ◌^◌, ◌<◌, IfOk, IfErr, OnOk, OnErr};
 ghost use Rattle.qstr_pool.specs.mpy_base.World.{object};
 ghost use Rattle.qstr_pool.specs.mpy_base.Weights.{empty, used, Fits, no_room};
-ghost use Rattle.arena_heap.specs.Values.{Sound, IsWithinRoom, HasFew};
+ghost use Rattle.arena_heap.specs.Values.{Sound, IsWithinRoom, HasOwnRoom, HasFew};
 
 use crate::cells::Cell;
 use qstr_pool::{NoMemory, NoRoom, Room};
@@ -123,10 +123,11 @@ impl Arena {
         let _ = &self.room;
     }
 
-    /// An arena's lists and dicts hold no more than their rooms, its objects few items, and what is used of the arena lies
-    /// within it.
+    /// An arena's lists and dicts hold no more than their rooms, which are such as they get (`HasOwnRoom`), its objects few
+    /// items, and what is used of the arena lies within it.
     pub fn room_law(&self)
         ensures rooms { (n : ℕ) → IsWithinRoom (object self.now.objects n) }
+        ensures own_rooms { (n : ℕ) → HasOwnRoom (object self.now.objects n) }
         ensures few_items { (n : ℕ) → HasFew (object self.now.objects n) }
         ensures fits { Fits self.now 0 0 }
         ensures few { self.now.cell_size < 2 ^ 32 }

@@ -1,9 +1,12 @@
-use Rattle.arena_heap.proofs.Rooms.{seen_rooms, seen_few_items, seen_left, seen_few_bytes}
+use Rattle.arena_heap.proofs.Rooms.{seen_rooms, seen_own_rooms, seen_few_items, seen_left, seen_few_bytes}
 use Rattle.arena_heap.proofs.Seen.{seen_few}
 use Rattle.arena_heap.proofs.arena.Arena.room_law.Goals as goal
 
 pub returns-clause-rooms : goal.returns-clause-rooms
 returns-clause-rooms c = seen_rooms c.self.inside c.self.invariant c.self.view_is
+
+pub returns-clause-own_rooms : goal.returns-clause-own_rooms
+returns-clause-own_rooms c = seen_own_rooms c.self.inside c.self.invariant c.self.view_is
 
 pub returns-clause-fits : goal.returns-clause-fits
 returns-clause-fits c = seen_left c.self.inside c.self.invariant c.self.view_is
