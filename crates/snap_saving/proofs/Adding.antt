@@ -11,8 +11,7 @@ use Rattle.mpy_base.specs.declared.refused.Refused.TheVariants as refused
 use Rattle.arena_heap.specs.declared.value.ConstNo.{ConstNo}
 use Rattle.arena_heap.specs.declared.value.Value.{Value}
 use Rattle.snap_grammar.specs.declared.parts.ValuePart.TheVariants as parts
-use Rattle.snap_grammar.specs.Spelling.{all_of}
-use Rattle.mpy_base.specs.Vuint.{vuint}
+use Rattle.snap_saving.specs.Put.{all_of, number}
 use Rattle.snap_saving.specs.declared.fault.SaveFault.{SaveFault}
 use Rattle.snap_saving.specs.Saved.{FaultBy, IfFault, IsLong}
 use Rattle.snap_saving.specs.Shown.{fixed_part}
@@ -108,6 +107,6 @@ flat_map-map : {X Y : Type 0} (g : X → Y) (f : Y → List ℕ) (xs : List X) �
 flat_map-map g f [] = refl
 flat_map-map g f (x ∷ xs) = ap (λ (z : List ℕ). f (g x) ++ z) (flat_map-map g f xs)
 
-pub all_of_map : {X Y : Type 0} (g : X → Y) (f : Y → List ℕ) (xs : List X) → all_of f (map g xs) ≡ vuint (length xs) ++ flat_map (λ x. f (g x)) xs
+pub all_of_map : {X Y : Type 0} (g : X → Y) (f : Y → List ℕ) (xs : List X) → all_of f (map g xs) ≡ number (length xs) ++ flat_map (λ x. f (g x)) xs
 all_of_map g f xs =
-    ap (λ (n : ℕ). vuint n ++ flat_map f (map g xs)) (length-map xs g) ∙ ap (λ (z : List ℕ). vuint (length xs) ++ z) (flat_map-map g f xs)
+    ap (λ (n : ℕ). number n ++ flat_map f (map g xs)) (length-map xs g) ∙ ap (λ (z : List ℕ). number (length xs) ++ z) (flat_map-map g f xs)

@@ -2,12 +2,11 @@
 
 ghost use Rattle.std.specs.Prelude.{◌≡◌, ◌<◌, ◌≤◌, ◌∷◌, [], ◌++◌, length, is_some, slice_index, unwrap_or, if◌then◌else◌, OnOk, IfOk};
 ghost use Rattle.std.specs.Option.{option_map};
-ghost use Rattle.mpy_base.specs.Vuint.{vuint};
 ghost use Rattle.mpy_base.specs.Weights.{used};
 ghost use Rattle.mpy_base.specs.World.{object};
 ghost use Rattle.prim_walks.specs.py_values.Names.{builtin_name as name_of_builtin};
 ghost use Rattle.bc_library.specs.Constants.{items_at, text_at};
-ghost use Rattle.snap_grammar.specs.Spelling.{text, value as value_spelling};
+ghost use Rattle.snap_saving.specs.Put.{number, text, value};
 ghost use Rattle.snap_saving.specs.Shown.{bool_part, fixed_part};
 ghost use Rattle.snap_saving.specs.Steps.{ArePlaces, found, pair_bytes, value_bytes};
 
@@ -63,7 +62,7 @@ pub(crate) fn place(places: &[u32], cell: u32) -> u32
 
 /// A bool.
 fn put_bool(out: &mut Vec<u8>, b: bool) -> Result<(), NoMemory>
-    ensures { OnOk result (out.new.items ≡ out.old.items ++ value_spelling (bool_part b)) }
+    ensures { OnOk result (out.new.items ≡ out.old.items ++ value (bool_part b)) }
 {
     match b {
         true => put_byte(out, 2),
@@ -73,7 +72,7 @@ fn put_bool(out: &mut Vec<u8>, b: bool) -> Result<(), NoMemory>
 
 /// The value that is an object.
 fn put_reference(out: &mut Vec<u8>, places: &[u32], cell: u32) -> Result<(), NoMemory>
-    ensures { OnOk result (out.new.items ≡ out.old.items ++ (4 ∷ vuint (found places.now cell))) }
+    ensures { OnOk result (out.new.items ≡ out.old.items ++ (4 ∷ number (found places.now cell))) }
 {
     out.push(4)?;
     put_number(out, place(places, cell))?;
@@ -99,7 +98,7 @@ fn item_count(library: &Library, c: ConstNo) -> u32
 /// The value that is a constant tuple.
 #[tactic(auto, using(crate::proofs::Adding::fixed_empty, crate::proofs::Adding::fixed_some))]
 fn put_fixed(out: &mut Vec<u8>, library: &Library, c: ConstNo) -> Result<(), NoMemory>
-    ensures { OnOk result (out.new.items ≡ out.old.items ++ value_spelling (fixed_part c (items_at library.now c))) }
+    ensures { OnOk result (out.new.items ≡ out.old.items ++ value (fixed_part c (items_at library.now c))) }
 {
     if item_count(library, c) == 0 {
         put_byte(out, 7)
@@ -110,7 +109,7 @@ fn put_fixed(out: &mut Vec<u8>, library: &Library, c: ConstNo) -> Result<(), NoM
 
 /// The value that is a constant tuple that has items.
 fn put_constant(out: &mut Vec<u8>, c: ConstNo) -> Result<(), NoMemory>
-    ensures { OnOk result (out.new.items ≡ out.old.items ++ (6 ∷ (vuint c.«module» ++ vuint c.object))) }
+    ensures { OnOk result (out.new.items ≡ out.old.items ++ (6 ∷ (number c.«module» ++ number c.object))) }
 {
     out.push(6)?;
     put_number(out, c.module)?;
