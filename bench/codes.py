@@ -1,11 +1,13 @@
 """Random codes for the verifier: about half are verified, the others have a fault at any place, some in a later round of a loop. They are
-small, since a reference takes its time over large ones."""
+small, since a reference takes its time over large ones. So are hostile codes: those that bench/hostile.py makes, of small numbers, some of
+them with changes."""
+import hostile
 from hostile import CODES, Code, file_of
 
 CODES.update(LOAD_FAST_0=0xB0, LOAD_FAST_3=0xB3, STORE_FAST_0=0xC0, LOAD_NULL=0x53, LOAD_METHOD=0x14, CALL_METHOD=0x36, CALL_FUNCTION=0x34,
-             STORE_SUBSCR=0x56, ROT_TWO=0x5A, ROT_THREE=0x5B, GET_ITER_STACK=0x5F, FOR_ITER=0x4B, UNWIND_JUMP=0x40, RAISE_OBJ=0x65,
+             STORE_SUBSCR=0x56, ROT_TWO=0x5A, ROT_THREE=0x5B, GET_ITER_STACK=0x5F, FOR_ITER=0x4B, RAISE_OBJ=0x65,
              POP_JUMP_IF_FALSE=0x44, JUMP_IF_FALSE_OR_POP=0x46, BINARY_ADD=0xF2, BUILD_LIST=0x2B, LOAD_SUBSCR=0x55, STORE_MAP=0x62)
-NAME = 7  # of a static text: `print`
+NAME = 1  # of the second text of the file: `print`
 MOST = 12  # slots that are open at once
 EXCEPT, FINALLY = "SETUP_EXCEPT", "SETUP_FINALLY"
 
@@ -33,7 +35,7 @@ class RandomCode:
         self.draw, self.code, self.height, self.entries = draw, Code(), 0, ()
         self.count, self.before, self.ahead, self.handlers = 0, {}, {}, []
         self.loose = draw.choice([0, 0, 0, 0.01, 0.05])
-        self.jumps, self.tries = draw.choice([1, 2, 4]), draw.choice([0, 0.3, 1])
+        self.jumps, self.tries = draw.choice([1, 2, 4]), draw.choice([0, 0.3, 1, 3])
 
     def place(self):
         """Puts a label here, and some of those that are wanted at such a place."""
@@ -158,7 +160,50 @@ class RandomCode:
 def random_file(draw):
     """Returns the bytes of a file of one random code."""
     it = RandomCode(draw)
-    for _ in range(draw.choice([8, 15, 30, 60, 90])):
+    for _ in range(draw.choice([8, 15, 30, 60, 90, 200, 400])):
         it.step()
     small = bytes([draw.choice([3, 7, 15]) << 3 | 4])
     return file_of(it.finish(), small if draw.random() < 0.2 else None)
+
+
+def hostile_code(draw):
+    """Returns one of the codes that are made to be slow, of small numbers."""
+    few, slots = draw.randint(1, 9), draw.randint(2, 20)
+    body = hostile.BODIES[draw.choice(sorted(hostile.BODIES))]
+    code = draw.choice([
+        lambda: hostile.closing(slots, draw.choice([0, 3]), few), lambda: hostile.named(slots, 2 * few), lambda: hostile.finallys(few, slots, 3),
+        lambda: hostile.looking(2 * slots, few, draw.random() < 0.5), lambda: hostile.returns(few, slots, 3), lambda: hostile.tries(few, slots, 3),
+        lambda: hostile.unwinds(few, slots, 3), lambda: hostile.within(few, slots, 40, body), lambda: hostile.bottoms(slots, 3, few, few - 1),
+        lambda: hostile.late(2 * slots, few), lambda: hostile.excepts(slots, few), lambda: hostile.unpacked(slots, few), lambda: hostile.dead(slots, few),
+    ])()
+    return draw.choice([lambda it: it, hostile.refused, hostile.late_end])(code)
+
+
+def change(draw, code):
+    """Changes an instruction: another one without an operand in its place or in front, none, or a jump to any label in front."""
+    at = draw.randrange(len(code.parts))
+    name, operand, width = code.parts[at]
+    other = draw.choice([it for it in STRAIGHT if STRAIGHT[it][0] is None] + ["END_FINALLY", "RETURN_VALUE", "RAISE_LAST"]), None, None
+    labels = [it[1] for it in code.parts if it[0] is None]
+    how = draw.random()
+    if name == "byte":  # the end of an instruction
+        return
+    if how < 0.3:
+        code.parts.insert(at, other)
+    elif how < 0.6 and name not in (None, "UNWIND_JUMP") and width is None:
+        code.parts[at : at + 1] = [other] if draw.random() < 0.5 else []
+    elif labels:
+        jump = draw.choice(["JUMP", "POP_JUMP_IF_TRUE", "JUMP_IF_TRUE_OR_POP", EXCEPT, FINALLY, "POP_EXCEPT_JUMP"])
+        code.parts[at:at] = [("LOAD_CONST_TRUE", None, None)] * ("TRUE" in jump) + [(jump, draw.choice(labels), 2)]
+
+
+def hostile_file(draw):
+    """Returns the bytes of a file of one hostile code, with up to three changes."""
+    while True:
+        code = hostile_code(draw)
+        for _ in range(draw.choice([0, 0, 1, 1, 2, 3])):
+            change(draw, code)
+        try:
+            return file_of(code)
+        except AssertionError:  # a jump back that is spelled by no number
+            pass

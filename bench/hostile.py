@@ -1,11 +1,12 @@
 """Codes made to be slow to verify. `python3 bench/hostile.py FOLDER` writes a file of one code for each; all are verified but those that
-begin with `refused`. Time them by `mpy check`."""
+begin with `refused`. `python3 bench/hostile.py FOLDER NAME LAST` writes a file of 4 MB, `great.mpy`, of as many codes NAME as it takes and a
+code LAST behind them. Time them by `mpy check`."""
 import os
 import sys
 
 CODES = dict(JUMP=0x42, POP_JUMP_IF_TRUE=0x43, JUMP_IF_TRUE_OR_POP=0x45, SETUP_EXCEPT=0x48, SETUP_FINALLY=0x49, POP_EXCEPT_JUMP=0x4A,
              LOAD_CONST_NONE=0x51, LOAD_CONST_TRUE=0x52, DUP_TOP=0x57, DUP_TOP_TWO=0x58, POP_TOP=0x59, END_FINALLY=0x5D,
-             RETURN_VALUE=0x63, RAISE_LAST=0x64, BUILD_TUPLE=0x2A, UNPACK_SEQUENCE=0x30, UNARY=0xD0)
+             RETURN_VALUE=0x63, RAISE_LAST=0x64, BUILD_TUPLE=0x2A, UNPACK_SEQUENCE=0x30, UNARY=0xD0, UNWIND_JUMP=0x40)
 SIGNED = ('JUMP', 'POP_JUMP_IF_TRUE', 'POP_JUMP_IF_FALSE', 'UNWIND_JUMP')
 
 
@@ -94,13 +95,28 @@ def offset(n, width, signed):
 
 
 GREATEST = bytes.fromhex('fcb2b2b2b2828202')  # room for 4,096 slots and 255 entries
+HEAD = bytes.fromhex('4d06001f02000865') + b'.py\0\x0f'
+MOST_BYTES = 4194304  # of a file
+
+
+def body_of(code, room=None):
+    """The bytes of a code with the greatest room, or this."""
+    body = (room or GREATEST) + bytes([2, 1]) + code.bytes()
+    assert len(body) <= 32767, len(body)
+    return body
 
 
 def file_of(code, room=None):
-    """A file of one code, which has the greatest room, or this."""
-    body = (room or GREATEST) + bytes([2, 1]) + code.bytes()
-    assert len(body) <= 32767, len(body)
-    return bytes.fromhex('4d06001f02000865') + b'.py\0\x0f' + number(len(body) * 8) + body
+    """A file of one code."""
+    body = body_of(code, room)
+    return HEAD + number(len(body) * 8) + body
+
+
+def great_file(code, last):
+    """A file of as many of a code as it takes, and another one behind them, all within one that does nothing."""
+    outer, first, end = (number(len(it) * 8 + inner) + it for it, inner in ((body_of(plain(0)), 4), (body_of(code), 0), (body_of(last), 0)))
+    count = (MOST_BYTES - len(HEAD + outer + end) - 3) // len(first)
+    return HEAD + outer + number(count + 1) + count * first + end
 
 
 def branches(c, count):
@@ -186,6 +202,44 @@ def tries(depth, count, below):
     return c
 
 
+def unwinds(depth, count, below):
+    """Jumps that leave many tries, and so run their handlers: the first half goes back, the other one forth."""
+    c = Code().op('LOAD_CONST_TRUE').num('UNPACK_SEQUENCE', below).jump('JUMP', 'start')
+    c.label(0).op('LOAD_CONST_NONE', 'RETURN_VALUE').label('start')
+    for d in range(depth):
+        c.jump('SETUP_FINALLY', ('h', d))
+    for i in range(count):
+        c.op('LOAD_CONST_TRUE').jump('POP_JUMP_IF_TRUE', ('l', i), False).unwind(2 * i // count, depth).label(('l', i))
+    c.op('LOAD_CONST_NONE', 'RETURN_VALUE')
+    for d in reversed(range(depth)):
+        c.label(('h', d)).op('END_FINALLY', 'LOAD_CONST_NONE', 'RETURN_VALUE')
+    return c.label(1).op('LOAD_CONST_NONE', 'RETURN_VALUE')
+
+
+def within(depth, below, size, body):
+    """Instructions within many tries: `body` adds the next ones."""
+    c = Code().op('LOAD_CONST_TRUE').num('UNPACK_SEQUENCE', below)
+    for d in range(depth):
+        c.jump('SETUP_FINALLY', ('h', d))
+    c.op('LOAD_CONST_TRUE')
+    count = 0
+    while c.length < size:
+        body(c, ('l', count))
+        count += 1
+    c.op('LOAD_CONST_NONE', 'RETURN_VALUE')
+    for d in reversed(range(depth)):
+        c.label(('h', d)).op('END_FINALLY', 'LOAD_CONST_NONE', 'RETURN_VALUE')
+    return c
+
+
+BODIES = {
+    'plain': lambda c, label: c.op('LOAD_CONST_NONE', 'POP_TOP'),
+    'jumps': lambda c, label: c.jump('JUMP', label, False).label(label),
+    'branches': lambda c, label: c.op('DUP_TOP').jump('POP_JUMP_IF_TRUE', label, False).label(label),
+    'raises': lambda c, label: c.op('DUP_TOP').jump('POP_JUMP_IF_TRUE', label, False).op('RAISE_LAST').label(label),
+}
+
+
 def excepts(slots, count):
     """Many tries with one handler."""
     c = Code().op('LOAD_CONST_TRUE').num('UNPACK_SEQUENCE', slots)
@@ -267,6 +321,13 @@ def late_end(code):
     return c.label('last').op('POP_TOP', 'POP_TOP', 'LOAD_CONST_TRUE').jump('JUMP', 'end', False)
 
 
+def meeting(code):
+    """The same code with a fault that is the last thing found: a branch both of whose ways lead to one position, at two heights."""
+    c = Code().op('LOAD_CONST_TRUE').jump('JUMP_IF_TRUE_OR_POP', 'bad').op('LOAD_CONST_NONE', 'POP_TOP')
+    c.parts += code.parts
+    return c.label('bad').jump('JUMP_IF_TRUE_OR_POP', 'met', False).label('met').op('LOAD_CONST_NONE', 'RETURN_VALUE')
+
+
 def refused(code):
     """The same code with a fault that is the last thing found: a value where a cause is asked, behind all."""
     c = Code().op('LOAD_CONST_TRUE').jump('JUMP_IF_TRUE_OR_POP', 'bad').op('LOAD_CONST_NONE', 'POP_TOP')
@@ -296,6 +357,11 @@ HOSTILE = {
     'late-3000': late(3000, 6800),
     'dead-9000': dead(4090, 9000),
     'plain': plain(32700),
+    'plain-in-250': within(250, 3800, 31000, BODIES['plain']),
+    'jumps-in-250': within(250, 3800, 31000, BODIES['jumps']),
+    'branches-in-250': within(250, 3800, 31000, BODIES['branches']),
+    'raises-in-250': within(250, 3800, 31000, BODIES['raises']),
+    'unwinds-in-127': unwinds(127, 4400, 3800),
     'refused-closing-400': refused(closing(400, 0, 2500)),
     'refused-closing-1000': refused(closing(1000, 0, 8190)),
     'refused-closing-1000-over-2700': refused(closing(1000, 2700, 7000)),
@@ -308,13 +374,30 @@ HOSTILE = {
     'refused-dense-4085': refused(dense([4085], 32600)),
     'refused-bottoms-4-in-200': refused(bottoms(1380, 4, 3990, 200)),
     'refused-excepts-4000': refused(excepts(4000, 6400)),
+    'refused-plain-in-250': refused(within(250, 3800, 31000, BODIES['plain'])),
+    'refused-jumps-in-250': refused(within(250, 3800, 31000, BODIES['jumps'])),
+    'refused-branches-in-250': refused(within(250, 3800, 31000, BODIES['branches'])),
+    'refused-raises-in-250': refused(within(250, 3800, 31000, BODIES['raises'])),
+    'refused-unwinds-in-127': refused(unwinds(127, 4400, 3800)),
+    'refused-meeting-1000': meeting(closing(1000, 0, 8180)),
+    'refused-meeting-3600': meeting(closing(3600, 0, 2280)),
     'refused-late-end-1000': late_end(closing(1000, 0, 8180)),
     'refused-late-end-2000': late_end(closing(2000, 0, 5980)),
     'refused-late-end-3600': late_end(closing(3600, 0, 2280)),
     'refused-late-end-tries-in-250': late_end(tries(250, 6000, 3500)),
+    'refused-late-end-jumps-in-250': late_end(within(250, 3800, 30500, BODIES['jumps'])),
+    'refused-late-end-raises-in-250': late_end(within(250, 3800, 30500, BODIES['raises'])),
 }
 
+
+def write(name, data):
+    with open(os.path.join(sys.argv[1], name + '.mpy'), 'wb') as out:
+        out.write(data)
+
+
 if __name__ == '__main__':
-    for name, code in HOSTILE.items():
-        with open(os.path.join(sys.argv[1], name + '.mpy'), 'wb') as out:
-            out.write(file_of(code))
+    if sys.argv[2:]:
+        write('great', great_file(*[HOSTILE[name] for name in sys.argv[2:]]))
+    else:
+        for name, code in HOSTILE.items():
+            write(name, file_of(code))
