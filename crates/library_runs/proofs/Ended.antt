@@ -427,7 +427,7 @@ goes_so shelf vm steps old now end said all goes p is ports printed e t = elim (
 ]
 
 -- a state where this was printed in place of all that was
-with_output : List ℕ → State → State
+abbrev with_output : List ℕ → State → State
 with_output text (Running paid frame frames w) = Running paid frame frames (record w { output = text })
 with_output text (Halted end w) = Halted end (record w { output = text })
 with_output text (Stuck w) = Stuck (record w { output = text })
