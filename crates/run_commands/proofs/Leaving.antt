@@ -8,8 +8,10 @@ use Rattle.port_set.specs.Calls.{Tell}
 use Rattle.port_set.specs.Counts.{AreAccounted}
 use Rattle.bc_library.specs.Shelf.{Shelf}
 use Rattle.library_runs.specs.vm_frames.bc_machine.Library.{Name}
+use Rattle.library_runs.specs.vm_frames.bc_machine.Machine.{run}
 use Rattle.library_runs.specs.vm_starting.declared.opening.Vm.{Vm}
 use Rattle.library_runs.specs.declared.ending.RunEnd.{RunEnd}
+use Rattle.library_runs.specs.declared.ending.RunEnd.TheVariants as ends
 use Rattle.library_runs.specs.Runs.{RunsAs, RunsSo, Sight, StandsAt, StandsSo}
 use Rattle.command_files.specs.image_runs.declared.fault.MainFault.TheVariants as mains
 use Rattle.command_files.specs.mpy_endings.declared.ending.Ending.{Ending}
@@ -76,14 +78,15 @@ module _ (stand_so : StandSo) (run_so : RunSo) (below : Shelf) (main : List ℕ)
         → LeavesRun (RunLibrary below main old.files name) room steps snap ports before after old.files new.files
     leaves h ports printed told all out =
         let shelf = h.ready.library in
-        let so = run_so shelf h.ready.main room steps before after _ said all h.runs in
+        let so = run_so shelf h.ready.main room steps before after ends.Limit said all h.runs in
         let first = so h.runs.program.0 h.runs.program.1 ports printed out told in
         let saved = h.saves.1 in
+        let here = run h.runs.program.0.library h.ready.main room.cells room.bytes ports steps in
         record {
           ready = h.ready;
           comes = h.comes;
-          printed = _;
-          left = _;
+          printed = here.world.output;
+          left = here.world.ports;
           bytes = h.saves.0;
           prints = first.output;
           told = first.told;
@@ -106,9 +109,10 @@ module _ (stand_so : StandSo) (run_so : RunSo) (below : Shelf) (main : List ℕ)
             few_bytes = saved.few_bytes;
             runs = λ p is.
                 let ran = so p is ports printed out told in
+                let there = run p.library h.ready.main room.cells room.bytes ports steps in
                 record {
-                  prints = grew_by before.out after.out printed _ _ out ran.output first.output;
-                  leaves = tells_same after.ports _ _ ran.told first.told;
+                  prints = grew_by before.out after.out printed there.world.output here.world.output out ran.output first.output;
+                  leaves = tells_same after.ports there.world.ports here.world.ports ran.told first.told;
                 };
           };
         }

@@ -107,22 +107,23 @@ Continues = (shelf : Shelf) (main : Name) (cells bytes : ℕ) (ports : List Port
 
 module _ (law : Continues) (shelf : Shelf) (main : Name) (front : Front) (snap : List ℕ) (other : Vm) (tabled : IsTabled shelf)
     (suspended : IsSuspendedRun shelf main front snap) (loaded : IsLoaded shelf snap other) where
+  -- what goes on for so many steps
+  abbrev behind : Program → ℕ → Run
+  behind p m = run_from p.library (standing p other front.left) m
+
   module _ (p : Program) (is : IsProgramOf shelf p) where
-    -- the run of so many steps more, and what goes on for these
+    -- the run of so many steps more
     abbrev whole : ℕ → Run
     whole m = run p.library main front.room.cells front.room.bytes front.ports (front.steps + m)
 
-    abbrev behind : ℕ → Run
-    behind m = run_from p.library (standing p other front.left) m
-
-    is_rest : (m : ℕ) → IsRestOf front.printed (whole m) (behind m)
+    is_rest : (m : ℕ) → IsRestOf front.printed (whole m) (behind p m)
     is_rest m =
         let stands = suspended.suspended.runs.stands p is in
         let there = ap (λ (s : State). (run_of s).world) stands.1 ∙ machine_world p suspended.vm stands.0 in
         let printed : stands.0.output ≡ front.printed = sym (ap (λ (w : PlainWorld). w.output) there) ∙ (suspended.runs p is).prints in
         let left : stands.0.ports ≡ front.left = sym (ap (λ (w : PlainWorld). w.ports) there) ∙ (suspended.runs p is).leaves in
         let so = law shelf main front.room.cells front.room.bytes front.ports front.steps snap suspended.vm other tabled suspended.names suspended.suspended loaded p is stands.0 stands.1 m in
-        subst (λ (out : List ℕ). IsRestOf out (whole m) (behind m)) printed
+        subst (λ (out : List ℕ). IsRestOf out (whole m) (behind p m)) printed
         (subst (λ (ports : List PortState). IsRestOf stands.0.output (whole m) (run_of (steps_of p.library m (machine_of p other (new_world 0 0 ports))))) left so)
 
     module _ (m : ℕ) (old new : Sight) (before : List ℕ) (out : old.out ≡ Some before) (rest : List ℕ) (ports : List PortState)
@@ -145,17 +146,17 @@ module _ (law : Continues) (shelf : Shelf) (main : Name) (front : Front) (snap :
       ran end said h =
           let so = is_rest m in
           record {
-            end_is = h.end_is ∙ end_alike (whole m).end (behind m).end so.ends;
-            said_is = h.said_is ∙ said_alike (whole m).end (behind m).end (whole m).world.heap (behind m).world.heap so.ends so.report;
-            output = ap (λ (text : List ℕ). front.printed ++ text) (same_rest (behind m).world.output h.output) ∙ sym so.output;
-            told = subst (λ (z : List PortState). Tell last.ports z) so.ports (told_last (behind m).world.ports h.told);
+            end_is = h.end_is ∙ end_alike (whole m).end (behind p m).end so.ends;
+            said_is = h.said_is ∙ said_alike (whole m).end (behind p m).end (whole m).world.heap (behind p m).world.heap so.ends so.report;
+            output = ap (λ (text : List ℕ). front.printed ++ text) (same_rest (behind p m).world.output h.output) ∙ sym so.output;
+            told = subst (λ (z : List PortState). Tell last.ports z) so.ports (told_last (behind p m).world.ports h.told);
           }
 
       -- what the next step adds
-      next_added : (taken : ℕ) (more : List ℕ) → Starts ((behind taken).world.output ++ more) (behind (taken + 1)).world.output
+      next_added : (taken : ℕ) (more : List ℕ) → Starts ((behind p taken).world.output ++ more) (behind p (taken + 1)).world.output
           → Starts ((whole taken).world.output ++ more) (run p.library main front.room.cells front.room.bytes front.ports ((front.steps + taken) + 1)).world.output
       next_added taken more h =
-          let r = (behind taken).world.output in
+          let r = (behind p taken).world.output in
           let one : (front.steps + taken) + 1 ≡ front.steps + (taken + 1) = omega arith in
           let on : (run p.library main front.room.cells front.room.bytes front.ports ((front.steps + taken) + 1)).world.output ≡ (whole (taken + 1)).world.output =
           ap (λ (k : ℕ). (run p.library main front.room.cells front.room.bytes front.ports k).world.output) one in
@@ -170,7 +171,7 @@ module _ (law : Continues) (shelf : Shelf) (main : Name) (front : Front) (snap :
       cut h =
           let so = is_rest m in
           let there = is_rest h.taken in
-          let r = (behind h.taken).world.output in
+          let r = (behind p h.taken).world.output in
           record {
             output = record {
               front = front.printed ++ rest;
@@ -182,13 +183,13 @@ module _ (law : Continues) (shelf : Shelf) (main : Name) (front : Front) (snap :
             };
             taken = front.steps + h.taken;
             within = omega (arith, h.within);
-            told = subst (λ (z : List PortState). Tell last.ports z) there.ports (told_last (behind h.taken).world.ports h.told);
+            told = subst (λ (z : List PortState). Tell last.ports z) there.ports (told_last (behind p h.taken).world.ports h.told);
             more = h.more;
             added = ap (λ (text : List ℕ). front.printed ++ text) (same_rest (r ++ h.more) h.added)
                 ∙ (sym (append_assoc front.printed r h.more) ∙ ap (λ (text : List ℕ). text ++ h.more) (sym there.output));
             next = elim h.next [
               | inl none ↦ inl none
-              | inr x ↦ inr (let less = x.0 in omega (arith, less), next_added h.taken h.more x.1)
+              | inr x ↦ inr (omega (arith, x.0), next_added h.taken h.more x.1)
             ];
           }
 
@@ -207,11 +208,11 @@ module _ (law : Continues) (shelf : Shelf) (main : Name) (front : Front) (snap :
     Seen = (rest : List ℕ) × (ports : List PortState) × Appends old.out new.out rest × Tell new.ports ports
 
     seen : (p : Program) (end : RunEnd) (said : List ℕ) → end ≢ ends.NoMemory → EndsFrom p.library (standing p other front.left) m old new end said → Seen
-    seen p ends.Ended said some h = (_, _, h.output, h.told)
-    seen p ends.Raised said some h = (_, _, h.output, h.told)
-    seen p ends.Memory said some h = (_, _, h.output, h.told)
-    seen p ends.Limit said some h = (_, _, h.output, h.told)
-    seen p ends.WriteFault said some h = (h.output.front, _, h.output.added, h.told)
+    seen p ends.Ended said some h = ((behind p m).world.output, (behind p m).world.ports, h.output, h.told)
+    seen p ends.Raised said some h = ((behind p m).world.output, (behind p m).world.ports, h.output, h.told)
+    seen p ends.Memory said some h = ((behind p m).world.output, (behind p m).world.ports, h.output, h.told)
+    seen p ends.Limit said some h = ((behind p m).world.output, (behind p m).world.ports, h.output, h.told)
+    seen p ends.WriteFault said some h = (h.output.front, (behind p h.taken).world.ports, h.output.added, h.told)
     seen p ends.NoMemory said some h = absurd (some refl)
 
     pub rests_by : (end : RunEnd) (said before : List ℕ) → GoesOn shelf other m old new end said → GoesSo shelf other m old new end said → end ≢ ends.NoMemory
