@@ -33,13 +33,13 @@ use Rattle.vm_machine.specs.state_calls.frame_exits.declared.ends.End.TheVariant
 use Rattle.vm_machine.specs.vm_starting.vm_states.Means.{Program}
 use Rattle.vm_machine.specs.vm_starting.Programs.{IsProgramOf}
 use Rattle.vm_machine.specs.vm_starting.declared.opening.Vm.{Vm}
-use Rattle.vm_machine.specs.Machine.{paid_state, world_in, machine_of}
+use Rattle.vm_machine.specs.Machine.{IsVm, paid_state, world_in, machine_of}
 use Rattle.vm_machine.specs.Running.{Outside, Agree, RunsFor, Strays, SinkFails, RunsToFailure, Runs as MachineRuns}
 use Rattle.std.specs.Prelude.{◌≢◌, MatchOption, slice_get}
 use Rattle.library_runs.specs.declared.ending.RunEnd.{RunEnd}
 use Rattle.library_runs.specs.declared.ending.RunEnd.TheVariants as ends
 use Rattle.library_runs.specs.Reports.{answer_of, said_by}
-use Rattle.library_runs.specs.Runs.{Sight, IsSaid, IsOver, RanFrom, CutFrom, EndsFrom, Strayed, StrayedOn, StandsAt, StandsOn, GoesOn, RunsAs, RunsSo, Says, end_of, said_of, begins_in, goes_in, run_from, standing, with_ports}
+use Rattle.library_runs.specs.Runs.{Sight, IsSaid, IsOver, RanFrom, CutFrom, EndsFrom, Strayed, StrayedOn, StandsAt, StandsOn, GoesOn, GoesSo, RunsAs, RunsSo, Says, StandsSo, end_of, said_of, begins_in, first_state, goes_in, run_from, standing, with_ports}
 
 -- ends
 -- ====
@@ -88,6 +88,10 @@ module _ (p : Program) where
   said_as vm (Some stops.Ended) paid calls w e = refl
   said_as vm (Some (stops.Raised x)) paid calls w e = ap (λ heap. end_report heap (plain.Raised x.cell)) (sym e)
   said_as vm (Some (stops.Memory room)) paid calls w e = refl
+
+  -- the world in which the machine is
+  pub machine_world : (vm : Vm) (w : PlainWorld) → (run_of (machine_of p vm w)).world ≡ world_in p vm w
+  machine_world vm w = world_as vm.end vm.paid vm.frames.calls (world_in p vm w)
 
   paid_behind : (front : List ℕ) (end : Option End) (paid : ℕ) (calls : List Call) (w : PlainWorld) → paid_state p end paid calls (behind front w) ≡ state_behind front (paid_state p end paid calls w)
   paid_behind front None paid [] w = refl
@@ -298,8 +302,9 @@ module _ {S : Type 0} (told : S → Option (List ℕ)) (shelf : Shelf) (steps : 
         ]
 
     -- it took all its steps, and didn't end
-    pub stands_in_all : new.end ≡ None → StandsOn shelf vm steps old now new
-    stands_in_all still_open = record {
+    pub stands_in_all : IsVm shelf new → new.end ≡ None → StandsOn shelf vm steps old now new
+    stands_in_all is_vm still_open = record {
+      is_vm = is_vm;
       goes_on = still_open;
       stands = λ p is ports printed e t.
           elim (runs p is (goes_in ports printed) (agrees told shelf p is ports printed vm before e t)) [
@@ -374,6 +379,7 @@ module _ (shelf : Shelf) (main : ℕ) (n : Named) (at : slice_get shelf.modules 
   -- and it stands where that machine does
   main_stands : (left : Vm) → StandsOn shelf vm steps old now left → StandsAt shelf n.name room steps old now left
   main_stands left g = record {
+    is_vm = g.is_vm;
     goes_on = g.goes_on;
     stands = λ p is ports printed e t.
         elim (g.stands p is ports printed e t) [
@@ -412,4 +418,43 @@ pub runs_so : (shelf : Shelf) (name : Name) (room : Room) (steps : ℕ) (old now
 runs_so shelf name room steps old now end said all runs p is ports printed e t = elim (runs.runs p is ports printed e t) [
   | inl so ↦ so
   | inr s ↦ absurd (none_strayed p name room steps ports printed old now all s)
+]
+
+pub goes_so : (shelf : Shelf) (vm : Vm) (steps : ℕ) (old now : Sight) (end : RunEnd) (said : List ℕ) → AreAccounted old.ports now.ports → GoesOn shelf vm steps old now end said → GoesSo shelf vm steps old now end said
+goes_so shelf vm steps old now end said all goes p is ports printed e t = elim (goes.runs p is ports printed e t) [
+  | inl so ↦ so
+  | inr s ↦ absurd (none_beyond old.ports now.ports all s.strays.strays.failed.number s.rose)
+]
+
+-- a state where this was printed in place of all that was
+abbrev with_output : List ℕ → State → State
+with_output text (Running paid frame frames w) = Running paid frame frames (record w { output = text })
+with_output text (Halted end w) = Halted end (record w { output = text })
+with_output text (Stuck w) = Stuck (record w { output = text })
+
+-- a state, by what it is behind a front
+bare : (front : List ℕ) (s : State) → with_output (state_world s).output (state_behind front s) ≡ s
+bare front (Running paid frame frames w) = refl
+bare front (Halted end w) = refl
+bare front (Stuck w) = refl
+
+module _ (p : Program) (text : List ℕ) where
+  paid_with : (end : Option End) (paid : ℕ) (calls : List Call) (w : PlainWorld) → with_output text (paid_state p end paid calls w) ≡ paid_state p end paid calls (record w { output = text })
+  paid_with None paid [] w = refl
+  paid_with None paid (c ∷ cs) w = refl
+  paid_with (Some end) paid calls w = refl
+
+  machine_with : (vm : Vm) (w : PlainWorld) → with_output text (machine_of p vm w) ≡ machine_of p vm (record w { output = text })
+  machine_with vm w = paid_with vm.end vm.paid vm.frames.calls (world_in p vm w)
+
+pub stands_so : (shelf : Shelf) (name : Name) (room : Room) (n : ℕ) (old now : Sight) (vm : Vm) → AreAccounted old.ports now.ports → StandsAt shelf name room n old now vm → StandsSo shelf name room n old vm
+stands_so shelf name room n old now vm all at p is ports printed e t = elim (at.stands p is ports printed e t) [
+  | inl x ↦
+      let first = first_state p name room n ports in
+      let s = steps_of p.library n first in
+      let text = (state_world s).output in
+      let there : state_behind printed s ≡ machine_of p vm x.0 =
+      sym (steps_behind printed p.library n first) ∙ (ap (steps_of p.library n) (sym (start_behind printed p.library name (new_world room.cells room.bytes ports))) ∙ x.1) in
+      (record x.0 { output = text }, sym (bare printed s) ∙ (ap (with_output text) there ∙ machine_with p text vm x.0))
+  | inr s ↦ absurd (none_strayed p name room n ports printed old now all s)
 ]

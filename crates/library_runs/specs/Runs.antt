@@ -23,7 +23,7 @@ use Rattle.prim_outputs.specs.Rooms.{room_line}
 use Rattle.vm_machine.specs.vm_starting.vm_states.Means.{Program}
 use Rattle.vm_machine.specs.vm_starting.Programs.{IsProgramOf}
 use Rattle.vm_machine.specs.vm_starting.declared.opening.Vm.{Vm}
-use Rattle.vm_machine.specs.Machine.{machine_of}
+use Rattle.vm_machine.specs.Machine.{IsVm, machine_of}
 use Rattle.vm_machine.specs.Running.{Outside, Strays}
 use Rattle.library_runs.specs.declared.ending.RunEnd.{RunEnd}
 use Rattle.library_runs.specs.declared.ending.RunEnd.TheVariants as ends
@@ -158,6 +158,7 @@ module _ (p : Program) (name : Name) (room : Room) (steps : ℕ) (ports : List P
 -- Where a run stands that took all its steps and didn't end: in each program of the library, where the sink told what was printed and the
 -- ports their contents, at the machine's state behind these steps
 pub record StandsAt (shelf : Shelf) (name : Name) (room : Room) (steps : ℕ) (old new : Sight) (vm : Vm) : Type 0 where
+  pub is_vm : IsVm shelf vm
   pub goes_on : vm.end ≡ None
   pub stands : (p : Program) → IsProgramOf shelf p → (ports : List PortState) (printed : List ℕ) → old.out ≡ Some printed → Tell old.ports ports
       → ((after : PlainWorld)
@@ -213,7 +214,24 @@ pub record GoesOn (shelf : Shelf) (vm : Vm) (steps : ℕ) (old new : Sight) (end
 
 -- where it stands that took all these steps and didn't end: in each such program at the machine's state behind them
 pub record StandsOn (shelf : Shelf) (vm : Vm) (steps : ℕ) (old new : Sight) (left : Vm) : Type 0 where
+  pub is_vm : IsVm shelf left
   pub goes_on : left.end ≡ None
   pub stands : (p : Program) → IsProgramOf shelf p → (ports : List PortState) (printed : List ℕ) → old.out ≡ Some printed → Tell old.ports ports
       → ((after : PlainWorld) × (steps_of p.library steps (machine_of p vm (goes_in ports printed)) ≡ machine_of p left after))
       ⊎ StrayedOn p vm steps ports printed old new
+
+-- where no port strayed
+-- =====================
+
+-- Where a run stands in which no port strayed, and the machine's run of the main module by itself, behind nothing printed: at this machine's
+-- state
+abbrev pub StandsSo : Shelf → Name → Room → (steps : ℕ) → (old : Sight) → Vm → Type 0
+StandsSo shelf name room steps old vm =
+    (p : Program) → IsProgramOf shelf p → (ports : List PortState) (printed : List ℕ) → old.out ≡ Some printed → Tell old.ports ports
+    → (after : PlainWorld) × (steps_of p.library steps (first_state p name room steps ports) ≡ machine_of p vm after)
+
+-- how a machine's run on ended in which none did
+abbrev pub GoesSo : Shelf → Vm → (steps : ℕ) → (old new : Sight) → RunEnd → (said : List ℕ) → Type 0
+GoesSo shelf vm steps old new end said =
+    (p : Program) → IsProgramOf shelf p → (ports : List PortState) (printed : List ℕ) → old.out ≡ Some printed → Tell old.ports ports
+    → EndsFrom p.library (standing p vm ports) steps old new end said

@@ -4,5 +4,6 @@ pub mod GoMeaning
 pub mod ImageMeaning
 pub mod Making
 pub mod Meaning
+pub mod ResumeMeaning
 pub mod Running
 pub mod Sources

@@ -40,13 +40,13 @@ use Rattle.meant_commands.specs.Meant.{HoldsBuilt, HoldsProgram, DoesAsMeant, Li
 -- ends
 -- ====
 
-status_as : (steps : ℕ) (end : End) → status_of (ending_of (end_of end) steps) ≡ end_status end
+pub status_as : (steps : ℕ) (end : End) → status_of (ending_of (end_of end) steps) ≡ end_status end
 status_as steps Open = refl
 status_as steps Ended = refl
 status_as steps (Raised x) = refl
 status_as steps (Memory room) = refl
 
-text_as : (name : List ℕ) (steps : ℕ) (heap : PlainHeap) (end : End) → said_of heap end ++ line_of name (ending_of (end_of end) steps) ≡ end_text steps heap end
+pub text_as : (name : List ℕ) (steps : ℕ) (heap : PlainHeap) (end : End) → said_of heap end ++ line_of name (ending_of (end_of end) steps) ≡ end_text steps heap end
 text_as name steps heap Open = refl
 text_as name steps heap Ended = refl
 text_as name steps heap (Raised x) = append-nil (end_report heap (Raised x))
@@ -56,7 +56,7 @@ text_as name steps heap (Memory room) = append-nil (room_line room)
 -- ========
 
 -- no run has this one
-not_run : (n : ℕ) → (n ≡ 0 → ⊥) → (n ≡ 1 → ⊥) → (n ≡ 5 → ⊥) → (n ≡ 6 → ⊥) → IsRunStatus n → ⊥
+pub not_run : (n : ℕ) → (n ≡ 0 → ⊥) → (n ≡ 1 → ⊥) → (n ≡ 5 → ⊥) → (n ≡ 6 → ⊥) → IsRunStatus n → ⊥
 not_run n a b c d (inl e) = a e
 not_run n a b c d (inr (inl e)) = b e
 not_run n a b c d (inr (inr (inl e))) = c e
@@ -66,7 +66,7 @@ not_run n a b c d (inr (inr (inr e))) = d e
 whole_front : (old new : Option (List ℕ)) (text more whole : List ℕ) → whole ≡ text ++ more → Appends old new text → AppendsFront old new whole
 whole_front old new text more whole e h = record { front = text; rest = more; parts = e; added = h }
 
-limit_open : (end : End) → ends.Limit ≡ end_of end → end ≡ Open
+pub limit_open : (end : End) → ends.Limit ≡ end_of end → end ≡ Open
 limit_open Open e = refl
 limit_open Ended e = absurd cc
 limit_open (Raised x) e = absurd cc

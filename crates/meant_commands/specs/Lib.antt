@@ -9,3 +9,4 @@ pub mod Alike
 pub mod GoMeant
 pub mod Made
 pub mod Meant
+pub mod ResumeMeant

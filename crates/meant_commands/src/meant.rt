@@ -1,9 +1,12 @@
 //! What a run says of its program.
 
-ghost use Rattle.std.specs.Prelude.{◌≡◌, ◌≢◌, ℕ, List, ◌∷◌, Ok, Option, Some};
+ghost use Rattle.std.specs.Prelude.{◌≡◌, ◌≢◌, ◌≤◌, ℕ, List, ◌∷◌, Ok, Option, Some};
 ghost use Rattle.meant_files.specs.mpy_base.declared.room.Room.{Room};
+ghost use Rattle.meant_files.specs.mpy_base.World.{PortState};
 ghost use Rattle.meant_files.specs.mpy_io.Files.{FileOf};
 ghost use Rattle.meant_files.specs.mpy_io.Ports.{PortView};
+ghost use Rattle.meant_files.specs.port_set.Calls.{Tell};
+ghost use Rattle.meant_files.specs.port_set.Counts.{AreAccounted};
 ghost use Rattle.library_files.specs.bc_library.mpy_tree.Raw.{Module};
 ghost use Rattle.library_files.specs.bc_library.Shelf.{Shelf, no_entries};
 ghost use Rattle.meant_files.specs.py_meaning.Program.{Program, Unit, Units};
@@ -18,11 +21,13 @@ ghost use Rattle.file_commands.specs.Migrate.{Migrates};
 ghost use Rattle.meant_commands.specs.GoMeant.{GoMeans, HoldsCrossed};
 ghost use Rattle.meant_commands.specs.Made.{HoldsMade, HoldMade, MakesOfSource, MakesOfUnits};
 ghost use Rattle.meant_commands.specs.Meant.{HoldsBuilt, HoldsProgram, RunMeans};
+ghost use Rattle.meant_commands.specs.ResumeMeant.{IsSameLibrary, MeansInParts, ResumeMeans};
 ghost use Rattle.file_commands.specs.Merge.{Merges};
 ghost use Rattle.run_commands.specs.command_files.Images.{HoldsImage};
 ghost use Rattle.run_commands.specs.command_files.Opened.{HoldsModule};
 ghost use Rattle.run_commands.specs.command_files.Outside.{Outside};
 ghost use Rattle.run_commands.specs.Ready.{GoLibrary, RunLibrary};
+ghost use Rattle.run_commands.specs.Resume.{EndsResume, ResumeLibrary};
 ghost use Rattle.run_commands.specs.Run.{EndsRun};
 ghost use Rattle.run_commands.specs.Save.{EndsRunTo};
 ghost use Rattle.meant_files.specs.Programs.{HoldsImageOf, IsLibraryOf, IsProgramOf, Sources};
@@ -30,6 +35,7 @@ ghost use Rattle.meant_files.specs.Programs.{HoldsImageOf, IsLibraryOf, IsProgra
 use meant_files::{
     checked_law, crossed_law, files_law, frozen_law, images_law, meant_law, sources_law,
 };
+use run_commands::{leaves_law, rest_law};
 
 /// A run of a file or an image, over whichever library, also where its state is saved, and of a source, does as each program means whose
 /// units its library has.
@@ -47,6 +53,35 @@ pub fn run_means_law()
         → RunMeans (GoLibrary level) room steps name old new ports_old ports_new status }
 {
     meant_law();
+}
+
+/// What goes on from the snapshot of a suspended run does with that run as each program means whose units its library has, and such a
+/// snapshot is never refused.
+pub fn resume_means_law()
+    ensures { (below : Shelf) (steps : ℕ) (name snap : List ℕ) (words : List (List ℕ)) (save : Option ℕ) (old new : Outside)
+        (ports_old ports_new : List PortView) (status : ℕ)
+        → EndsResume (ResumeLibrary below) steps name snap words save old new ports_old ports_new status
+        → ResumeMeans (ResumeLibrary below) steps name snap old new ports_old ports_new status }
+{
+    meant_law();
+    rest_law();
+}
+
+/// A run that is suspended, whose library has a program's units, and what goes on from the snapshot that it saved do together as the program
+/// means, where the library is still the same. The snapshot is never refused.
+pub fn parts_mean_law()
+    ensures { (below : Shelf) (main : List ℕ) (room : Room) (steps more : ℕ) (name snap : List ℕ) (words : List (List ℕ)) (save : Option ℕ)
+        (program : Program) (ports : List PortState) (file : FileOf) (printed : List ℕ) (old left from new : Outside)
+        (ports_old ports_left ports_from ports_new : List PortView) (status : ℕ) → room.cells ≤ 4194304 → room.bytes ≤ 16777216
+        → EndsRunTo (Some snap) (RunLibrary below main) room steps name old left ports_old ports_left 5
+        → EndsResume (ResumeLibrary below) more name snap words save from new ports_from ports_new status
+        → HoldsProgram (RunLibrary below main) old.files name program → old.files ≡ Some file → old.out ≡ Some printed → Tell ports_old ports
+        → AreAccounted ports_old ports_left → from.files ≡ left.files → IsSameLibrary below main old.files left.files name
+        → MeansInParts (ResumeLibrary below) room steps more name program ports old left from new ports_left ports_from ports_new status }
+{
+    meant_law();
+    rest_law();
+    leaves_law();
 }
 
 /// A run of a source does as the program of the sources means.

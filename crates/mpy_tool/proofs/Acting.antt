@@ -1,8 +1,10 @@
 -- Orders over a base, and what they change.
-use Rattle.std.proofs.Common.{◌≡◌, ℕ, true, false, List, [], Option, Some, None, get_or, Ok, refl, subst, inl, inr}
+use Rattle.std.proofs.Common.{◌≡◌, ◌≤◌, ℕ, true, false, List, [], Option, Some, None, get_or, Ok, refl, subst, inl, inr}
 use Rattle.std.specs.Prelude.{IfOk}
 use Rattle.mpy_base.specs.declared.limits.TheConstants.{MAX_TASKS}
+use Rattle.mpy_base.specs.declared.room.Room.{Room}
 use Rattle.mpy_io.specs.Files.{FileOf}
+use Rattle.mpy_io.specs.Ports.{PortView}
 use Rattle.image_open.specs.image_grammar.bc_library.Shelf.{Shelf, no_entries}
 use Rattle.meant_commands.specs.source_files.Sources.{stored}
 use Rattle.mpy_words.specs.declared.order.Command.{Command}
@@ -10,7 +12,7 @@ use Rattle.mpy_words.specs.declared.order.Command.TheVariants.{Go, Check, CheckA
 use Rattle.mpy_words.specs.declared.order.Order.{Order}
 use Rattle.mpy_words.specs.Words.{Outcome, order_of, first_name, second_name, source_name, main_name, file_names, saved_name}
 use Rattle.board_command.specs.board_files.Files.{KeepsOthers}
-use Rattle.board_command.specs.command_files.Outside.{Ends, EndsAt, Writes, WritesOf}
+use Rattle.board_command.specs.command_files.Outside.{Ends, EndsAt, Outside, Writes, WritesOf}
 use Rattle.board_command.proofs.command_files_lemmas.Others.{same_only}
 use Rattle.meant_commands.specs.file_commands.Check.{Checks}
 use Rattle.meant_commands.specs.file_commands.CheckAs.{ChecksAs}
@@ -21,8 +23,10 @@ use Rattle.meant_commands.specs.run_commands.Ready.{GoLibrary, RunLibrary}
 use Rattle.meant_commands.specs.run_commands.Run.{EndsRun, room_of}
 use Rattle.meant_commands.specs.run_commands.Save.{EndsRunTo}
 use Rattle.meant_commands.specs.run_commands.Resume.{EndsResume, ResumeLibrary}
+use Rattle.meant_commands.specs.run_commands.Suspended.{SavesRun}
 use Rattle.meant_commands.specs.GoMeant.{GoMeans}
 use Rattle.meant_commands.specs.Meant.{Libraries, RunMeans}
+use Rattle.meant_commands.specs.ResumeMeant.{ResumeMeans}
 use Rattle.meant_commands.proofs.Meaning.{MeantLaw, run_to_means}
 use Rattle.meant_commands.specs.file_commands.Freeze.{Freezes}
 use Rattle.meant_commands.specs.file_commands.Migrate.{Migrates}
@@ -37,6 +41,21 @@ use Rattle.mpy_tool.specs.Order.{ChangesBy, ChangesSaved, calls_ports, makes_sou
 use Rattle.mpy_tool.specs.Making.{StressMeans}
 use Rattle.mpy_tool.proofs.Stressing.{GoLaw, stress_means}
 use Rattle.mpy_tool.proofs.Ended.{checked, checked_as, dumped, crossed, merged, frozen, migrated, boarded}
+
+-- laws of suspended runs
+-- ======================
+
+-- a run that saves its state leaves the snapshot of a suspended run
+abbrev pub LeavesLaw : Type 0
+LeavesLaw = (below : Shelf) (main : List ℕ) (saved : Option (List ℕ)) (room : Room) (steps : ℕ) (name : List ℕ) (old new : Outside) (ports_old ports_new : List PortView) (status : ℕ)
+    → room.cells ≤ 4194304 → room.bytes ≤ 16777216 → EndsRunTo saved (RunLibrary below main) room steps name old new ports_old ports_new status
+    → SavesRun saved (RunLibrary below main) room steps name old new ports_old ports_new status
+
+-- what goes on from one does with the run as its program means
+abbrev pub ResumeLaw : Type 0
+ResumeLaw = (below : Shelf) (steps : ℕ) (name snap : List ℕ) (words : List (List ℕ)) (save : Option ℕ) (old new : Outside) (ports_old ports_new : List PortView) (status : ℕ)
+    → EndsResume (ResumeLibrary below) steps name snap words save old new ports_old ports_new status
+    → ResumeMeans (ResumeLibrary below) steps name snap old new ports_old ports_new status
 
 -- where no file changed
 -- =====================
@@ -315,3 +334,25 @@ module _ (order : Order) (call : Call) where
   stress_means_ordered law is h =
       ordered Stress (λ o. ShowsPorts call (StressMeans o.seed o.count (room_of o) o.steps)) is
       (λ e. stress_means law order.seed order.count (room_of order) order.steps call.old call.new call.ports_old call.ports_new call.status (as_command Stress e h))
+
+  -- what a run leaves that saves its state
+  pub suspends_ordered : LeavesLaw → order.cells ≤ 4194304 → order.bytes ≤ 16777216 → Ok order ≡ order_of call.words → Obeyed order.command
+      → OrdersOne call Run (λ o file. Based call o.base (λ below.
+      ShowsPorts call (SavesRun (saved_name call.words o.save) (RunLibrary below (main_name call.words o.main_name)) (room_of o) o.steps file)))
+  suspends_ordered law few_cells few_bytes is h =
+      let file = first_name call.words in
+      let main = main_name call.words order.main_name in
+      ordered Run (λ o. Based call o.base (λ below.
+      ShowsPorts call (SavesRun (saved_name call.words o.save) (RunLibrary below (main_name call.words o.main_name)) (room_of o) o.steps file))) is
+      (λ e. based_map order.base (λ below. Ran (RunLibrary below main))
+      (λ below. ShowsPorts call (SavesRun (saved_name call.words order.save) (RunLibrary below main) (room_of order) order.steps file))
+      (λ below. law below main (saved_name call.words order.save) (room_of order) order.steps file call.old call.new call.ports_old call.ports_new call.status few_cells few_bytes) (as_command Run e h))
+
+  pub resume_means_ordered : ResumeLaw → Ok order ≡ order_of call.words → Obeyed order.command
+      → OrdersTwo call Resume (λ o file snap. Based call o.base (λ below. ShowsPorts call (ResumeMeans (ResumeLibrary below) o.steps file snap)))
+  resume_means_ordered law is h =
+      let file = first_name call.words in
+      let snap = second_name call.words in
+      ordered Resume (λ o. Based call o.base (λ below. ShowsPorts call (ResumeMeans (ResumeLibrary below) o.steps file snap))) is
+      (λ e. based_map order.base (ResumesBy order call) (λ below. ShowsPorts call (ResumeMeans (ResumeLibrary below) order.steps file snap))
+      (λ below. law below order.steps file snap call.words order.save call.old call.new call.ports_old call.ports_new call.status) (as_command Resume e h))

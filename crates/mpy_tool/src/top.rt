@@ -17,8 +17,10 @@ ghost use Rattle.meant_commands.specs.run_commands.Ready.{GoLibrary, RunLibrary}
 ghost use Rattle.meant_commands.specs.run_commands.Run.{EndsRun, room_of};
 ghost use Rattle.meant_commands.specs.run_commands.Save.{EndsRunTo};
 ghost use Rattle.meant_commands.specs.run_commands.Resume.{EndsResume, ResumeLibrary};
+ghost use Rattle.meant_commands.specs.run_commands.Suspended.{SavesRun};
 ghost use Rattle.meant_commands.specs.GoMeant.{GoMeans};
 ghost use Rattle.meant_commands.specs.Meant.{RunMeans};
+ghost use Rattle.meant_commands.specs.ResumeMeant.{ResumeMeans};
 ghost use Rattle.meant_commands.specs.file_commands.Freeze.{Freezes};
 ghost use Rattle.meant_commands.specs.file_commands.Migrate.{Migrates};
 ghost use Rattle.board_command.specs.Boards.{Boards};
@@ -36,7 +38,7 @@ use crate::resuming::resume_order;
 use crate::running::run_order;
 use bc_library::Library;
 use board_command::{meant_law, open_base};
-use meant_commands::{go_means_law, stress};
+use meant_commands::{go_means_law, leaves_law, resume_means_law, stress};
 use mpy_base::Room;
 use mpy_endings::{Ending, say_ending, say_words, word_at};
 use mpy_io::{Folder, Port, Sink};
@@ -281,6 +283,17 @@ pub fn mpy<F: Folder, S: Sink, P: Port, E: Sink>(
         let main = main_name call.words order.main_name in
         ShowsPorts call (RunMeans (RunLibrary below main) (room_of order) order.steps file))) }
 
+    // Where run takes all its steps and saves its state, SNAP is the snapshot of a run that is suspended. `resume` of such a snapshot does
+    // with that run as its program means: what both print together, how it ends and what it leaves of the ports; it stops earlier only at
+    // its last step, and refuses no such snapshot.
+    ensures suspends { let call = call_of F.Folder S.Sink P.Port E.Sink words.now outside.old outside.new result in
+        OrdersOne call commands.Run (λ order file. Based call order.base (λ below.
+        let main = main_name call.words order.main_name in
+        ShowsPorts call (SavesRun (saved_name call.words order.save) (RunLibrary below main) (room_of order) order.steps file))) }
+    ensures resume_means { let call = call_of F.Folder S.Sink P.Port E.Sink words.now outside.old outside.new result in
+        OrdersTwo call commands.Resume (λ order file snap. Based call order.base (λ below.
+        ShowsPorts call (ResumeMeans (ResumeLibrary below) order.steps file snap))) }
+
     // With the status of a run, stress printed its lines, and behind them it printed and ended as the made source means, as go does.
     ensures stress_means { let call = call_of F.Folder S.Sink P.Port E.Sink words.now outside.old outside.new result in
         Orders call commands.Stress (λ order.
@@ -304,6 +317,8 @@ pub fn mpy<F: Folder, S: Sink, P: Port, E: Sink>(
 {
     go_means_law();
     meant_law();
+    leaves_law();
+    resume_means_law();
     match order_of(words) {
         Ok(order) => obey(order, alloc, words, outside),
         Err(fault) => {

@@ -4,6 +4,9 @@ pub mod Running
 pub mod Going
 pub mod Suspending
 pub mod Resumption
+pub mod Resting
+mod Leaving
+mod Naming
 mod Starting
 mod Examples
 pub mod Front

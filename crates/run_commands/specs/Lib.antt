@@ -11,6 +11,7 @@ pub mod Run
 pub mod Ready
 pub mod Save
 pub mod Resume
+pub mod Suspended
 pub mod Draws
 pub mod Source
 pub mod Stress

@@ -10,6 +10,7 @@ use Rattle.command_files.specs.image_runs.declared.fault.MainFault.TheVariants a
 use Rattle.command_files.specs.mpy_endings.image_open.Opens.{Opens}
 use Rattle.command_files.specs.mpy_endings.image_open.image_grammar.Base.{base_of as base_below}
 use Rattle.command_files.specs.mpy_endings.image_open.image_grammar.Opening.{FirstFault}
+use Rattle.snap_loading.specs.Given.{IsTabled}
 use Rattle.snap_loading.specs.Loaded.{IsLoaded}
 use Rattle.snap_grammar.specs.declared.fault.SnapFault.{SnapFault}
 use Rattle.snap_grammar.specs.declared.fault.SnapFault.TheVariants.{BadHeader, BadForm, BadState}
@@ -86,6 +87,13 @@ FirstSnapFault shelf bytes BadState = (s : Snapshot) × Fits s × (bytes ≡ spe
 abbrev pub IsLongFile : Option FileOf → (name : List ℕ) → Type 0
 IsLongFile files name = IfSome files (λ file. (bytes : List ℕ) × (file name ≡ Some bytes) × (MAX_READ_BYTES < length bytes))
 
+-- the file under the name isn't the snapshot of a state of the library, by this first fault of its bytes. The library has its tables
+pub record HoldsNoState (shelf : Shelf) (files : Option FileOf) (name : List ℕ) (fault : SnapFault) : Type 0 where
+  pub bytes : List ℕ
+  pub holds : MayHold files name (Some bytes)
+  pub first : FirstSnapFault shelf bytes fault
+  pub tabled : IsTabled shelf
+
 -- why the file under the name is no snapshot of a state of the library
 abbrev pub RefusesState : Shelf → Option FileOf → (name : List ℕ) → Ending → Type 0
 RefusesState shelf files name Done = ⊥
@@ -105,19 +113,20 @@ RefusesState shelf files name (Stopped Memory) = ⊥
 RefusesState shelf files name (Stopped (Steps count)) = ⊥
 RefusesState shelf files name (Stopped Unsaved) = ⊥
 RefusesState shelf files name (Stopped (Unresumed fault)) =
-    ((fault ≡ BadForm) × IsLongFile files name) ⊎ ((bytes : List ℕ) × MayHold files name (Some bytes) × FirstSnapFault shelf bytes fault)
+    ((fault ≡ BadForm) × IsLongFile files name) ⊎ HoldsNoState shelf files name fault
 RefusesState shelf files name ReadFault = Unit {0}
 RefusesState shelf files name WriteFault = ⊥
 RefusesState shelf files name Unwritten = ⊥
 RefusesState shelf files name NoMemory = Unit {0}
 RefusesState shelf files name Absent = MayHold files name None
 
--- the file under the name is a snapshot of a state of the library, and the machine, which runs the library, was made of it
+-- the file under the name is a snapshot of a state of the library, which has its tables, and the machine, which runs the library, was made of it
 pub record HoldsState (shelf : Shelf) (files : Option FileOf) (name : List ℕ) (vm : Vm) : Type 0 where
   pub bytes : List ℕ
   pub holds : MayHold files name (Some bytes)
   pub loaded : IsLoaded shelf bytes vm
   pub is_vm : IsVm shelf vm
+  pub tabled : IsTabled shelf
 
 -- the run on
 -- ==========

@@ -1,12 +1,15 @@
 -- Runs whose state is saved where they take all their steps and don't end.
 use Rattle.std.specs.Prelude.{◌≡◌, ◌⊎◌, ◌++◌, ℕ, ◌^◌, ◌<◌, ◌≤◌, Bool, true, false, List, length, Option, Some, None, Result, Ok}
+use Rattle.mpy_base.specs.declared.limits.TheConstants.{MAX_CALLS}
 use Rattle.mpy_base.specs.declared.room.Room.{Room}
 use Rattle.mpy_io.specs.Count.{Counts}
 use Rattle.mpy_io.specs.Files.{FileOf, Becomes, BecomesFront}
 use Rattle.mpy_io.specs.Ports.{PortView}
 use Rattle.bc_library.specs.Shelf.{Shelf}
+use Rattle.snap_grammar.specs.Spelling.{Fits}
+use Rattle.snap_loading.specs.Saved.{IsHeld}
 use Rattle.snap_saving.specs.Saved.{IsTooBig}
-use Rattle.snap_saving.specs.Shown.{IsSnapshotOf}
+use Rattle.snap_saving.specs.Shown.{IsSnapshotOf, snapshot_of}
 use Rattle.library_runs.specs.vm_starting.declared.opening.Vm.{Vm}
 use Rattle.library_runs.specs.declared.ending.RunEnd.TheVariants as ends
 use Rattle.library_runs.specs.Runs.{Sight, RunsAs, StandsAt}
@@ -27,8 +30,11 @@ is_unwritten _ = false
 -- the bytes are the snapshot of a machine's state, which has one
 pub record IsSaved (bytes : List ℕ) (shelf : Shelf) (vm : Vm) : Type 0 where
   pub is : IsSnapshotOf shelf vm.arena vm.modules vm.frames.calls vm.paid bytes
+  pub fits : Fits (snapshot_of shelf vm.arena vm.modules vm.frames.calls vm.paid)
   pub few_bytes : length bytes ≤ 4194304
   pub few_steps : vm.paid < 2 ^ 63
+  pub few_calls : length vm.frames.calls ≤ MAX_CALLS
+  pub held : IsHeld vm
 
 -- a machine's state has no snapshot
 abbrev pub HasNone : Shelf → Vm → Type 0

@@ -11,6 +11,7 @@ mod run;
 mod saving;
 mod source;
 mod stressing;
+mod suspended;
 
 pub use base::base_of;
 pub use command_files::{Ending, put_three, say_ending};
@@ -22,3 +23,4 @@ pub use run::{run_loaded, run_ready};
 pub use saving::run_saving;
 pub use source::stress_source;
 pub use stressing::stress;
+pub use suspended::{leaves_law, rest_law};

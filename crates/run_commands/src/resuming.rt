@@ -16,6 +16,7 @@ ghost use Rattle.library_files.specs.Ends.{HoldsModules};
 ghost use Rattle.library_runs.specs.Runs.{sight};
 ghost use Rattle.library_runs.specs.vm_machine.Machine.{IsVm};
 ghost use Rattle.library_runs.specs.vm_starting.Programs.{IsRunnable};
+ghost use Rattle.snap_loading.specs.Given.{IsTabled};
 ghost use Rattle.snap_loading.specs.Loaded.{IsLoaded};
 ghost use Rattle.run_commands.specs.Run.{IsUnloaded};
 ghost use Rattle.run_commands.specs.Resume.{ImageLibrary, RefusesState, ResumeLibrary, Resumes, WentOn};
@@ -30,7 +31,7 @@ use mpy_base::{NoMemory, Refused};
 use mpy_io::{Folder, Port, ReadFault, Sink};
 use port_set::PortSet;
 use snap_grammar::SnapFault;
-use snap_loading::load;
+use snap_loading::{load, tables_law};
 use std::alloc::Global;
 
 /// The library of an image over the library below, or what keeps it from being opened.
@@ -98,8 +99,10 @@ fn load_state(alloc: Global, library: &Library, rows: &Rows<'_>, bytes: &[u8]) -
     ensures ready { IfOk result (IsVm library.now) }
     ensures refused { (files : Option FileOf) (name : List ℕ) → MayHold files name (Some bytes.now)
         → IfErr result (RefusesState library.now files name) }
+    ensures tabled { IsTabled library.now }
     ensures read { failed_in result ≡ false }
 {
+    tables_law(library, rows);
     match load(alloc, library, rows, bytes) {
         Ok(vm) => Ok(vm),
         Err(Refused::Fault(fault)) => Err(Ending::Stopped(Stop::Unresumed(fault))),

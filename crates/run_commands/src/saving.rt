@@ -22,6 +22,7 @@ use library_runs::{Vm, run_for};
 use mpy_base::{Refused, Room};
 use mpy_io::{Failed, Folder, Port, Sink};
 use port_set::PortSet;
+use snap_loading::held_law;
 use snap_saving::{SaveFault, save};
 use std::alloc::Global;
 
@@ -37,6 +38,7 @@ pub(crate) fn save_state<F: Folder>(
     ensures saves { SavesState snap.now (F.files folder.old) (F.files folder.new) library.now vm.now steps result }
     ensures unwritten { Counts (F.count folder.old) (F.count folder.new) (is_unwritten result) }
 {
+    held_law(vm);
     match save(alloc, library, &vm.arena, &vm.modules, &vm.frames, vm.paid) {
         Ok(bytes) => match folder.write(snap, &bytes) {
             Ok(()) => Ending::Stopped(Stop::Steps(steps)),

@@ -4,7 +4,7 @@ use Rattle.std.specs.List.{AllByRecursion as Each}
 use Rattle.bc_progress.specs.mpy_base.declared.builtin.Builtin.{Builtin}
 use Rattle.bc_progress.specs.mpy_base.declared.builtin.Builtin.TheVariants as builtins
 use Rattle.bc_progress.specs.mpy_base.declared.kind.Kind.{Kind}
-use Rattle.bc_progress.specs.mpy_base.World.{ExceptionObject, AModule, object, IsA, pairs_at}
+use Rattle.bc_progress.specs.mpy_base.World.{ExceptionObject, object, pairs_at}
 use Rattle.bc_progress.specs.mpy_base.Val.{Val, Str, Empty, At, PlainWorld}
 use Rattle.bc_progress.specs.py_values.Shown.{PlainHeap, Shown, Pairs, shown}
 use Rattle.bc_progress.specs.py_values.Names.{builtin_name}
@@ -22,9 +22,9 @@ use Rattle.bc_progress.specs.py_effects.Calling.{written}
 use Rattle.bc_progress.specs.bc_machine.Library.{Library}
 use Rattle.bc_progress.specs.Known.{HasMethod}
 use Rattle.snap_kept.specs.Texts.{is_method, IsName}
-use Rattle.snap_kept.specs.Values.{IsNamespace, IsPlain}
+use Rattle.snap_kept.specs.Values.{title_of, IsNamespace, IsPlain}
 use Rattle.snap_kept.specs.Effects.{IsLocal, AreLocals, IsSound}
-use Rattle.snap_kept.proofs.Onward.{Onward, kind_on, onward_same, onward_on}
+use Rattle.snap_kept.proofs.Onward.{Onward, title_on, onward_same, onward_on}
 use Rattle.snap_kept.proofs.Changes.{Comes, comes_same, place_comes, namespace_dict}
 use Rattle.snap_kept.proofs.Lists.{each_all, each_map}
 use Rattle.snap_kept.proofs.Making.{FaultIn, AnswerIn, IsIn, IsRaised, exception_made, fault_in, walked}
@@ -49,13 +49,14 @@ module _ (library : Library) where
   pub world_on : (a b c : PlainWorld) → WorldComes a b → WorldComes b c → WorldComes a c
   world_on a b c p q = record { onward = onward_on a.heap b.heap c.heap p.onward q.onward; sound = q.sound }
 
-  modules_on : (h k : PlainHeap) → Onward h k → (modules : List (List ℕ × ℕ)) → Each (λ m. IsA h.objects AModule (m.1)) modules → Each (λ m. IsA k.objects AModule (m.1)) modules
-  modules_on h k on [] p = tt
-  modules_on h k on (m ∷ modules) p = (kind_on h k on (m.1) AModule (p.0), modules_on h k on modules (p.1))
+  titles_on : (h k : PlainHeap) → Onward h k → (modules : List (List ℕ × ℕ)) → Each (λ m. title_of (object h.objects (m.1)) ≡ Some (m.0)) modules
+      → Each (λ m. title_of (object k.objects (m.1)) ≡ Some (m.0)) modules
+  titles_on h k on [] p = tt
+  titles_on h k on (m ∷ modules) p = (title_on h k on (m.1) (m.0) (p.0), titles_on h k on modules (p.1))
 
   -- where the heap alone goes on
   pub heap_comes : (w : PlainWorld) (k : PlainHeap) → IsSound library w → Comes library w.heap k → WorldComes w (record w { heap = k })
-  heap_comes w k s c = record { onward = c.onward; sound = record { heap = c.fine; modules = modules_on w.heap k c.onward w.modules s.modules } }
+  heap_comes w k s c = record { onward = c.onward; sound = record { heap = c.fine; titles = titles_on w.heap k c.onward w.modules s.titles } }
 
   abbrev pub AnswerW : {A : Type 0} → (PlainHeap → A → Type 0) → PlainWorld → PlainWorld → Result A Stop → Type 0
   AnswerW In w u (Ok a) = WorldComes w u × In u.heap a
@@ -211,6 +212,6 @@ module _ (library : Library) where
     printed_by args (Err fault) p = (comes_same library w.heap s.heap, p fault refl)
 
     pub written_in : (o : Outcome (List ℕ)) (r : Result (List ℕ) Stop) → AnswerIn library (λ k text. Unit {0}) w.heap o.heap r → E (written w o r)
-    written_in o (Ok text) p = (record { onward = (p.0).onward; sound = record { heap = (p.0).fine; modules = modules_on w.heap o.heap (p.0).onward w.modules s.modules } }, tt)
+    written_in o (Ok text) p = (record { onward = (p.0).onward; sound = record { heap = (p.0).fine; titles = titles_on w.heap o.heap (p.0).onward w.modules s.titles } }, tt)
     written_in o (Err (Raises fault)) p = (heap_comes w o.heap s (p.0), p.1)
     written_in o (Err (Full e)) p = tt

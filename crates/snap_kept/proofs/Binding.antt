@@ -190,8 +190,8 @@ module _ (library : Library) (w : PlainWorld) (s : IsSound library w) where
 
   -- built-ins
   ports_by : (r : Result Val Stop) (ports : List PortState) → AnswerP library w.heap r → E library w s (on_ports w (record { answer = r; ports = ports }))
-  ports_by (Ok v) ports p = (record { onward = onward_same w.heap; sound = record { heap = s.heap; modules = s.modules } }, p)
-  ports_by (Err (Raises fault)) ports p = (record { onward = onward_same w.heap; sound = record { heap = s.heap; modules = s.modules } }, p)
+  ports_by (Ok v) ports p = (record { onward = onward_same w.heap; sound = record { heap = s.heap; titles = s.titles } }, p)
+  ports_by (Err (Raises fault)) ports p = (record { onward = onward_same w.heap; sound = record { heap = s.heap; titles = s.titles } }, p)
   ports_by (Err (Full e)) ports p = tt
 
   on_ports_in : (b : Builtin) (args : List Val) (keys : Keys) → E library w s (on_ports w (call_port w.heap w.ports b args keys))

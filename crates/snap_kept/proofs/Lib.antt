@@ -9,7 +9,7 @@ mod Making
 mod Marking
 mod Moduling
 mod Moving
-mod Onward
+pub mod Onward
 mod Operating
 mod Running
 mod Stepping

@@ -6,16 +6,16 @@ use Rattle.bc_progress.specs.mpy_base.World.{Object, ModuleObject, DictObject, F
 use Rattle.bc_progress.specs.mpy_base.Weights.{used, does_fit, cells_of, bytes_of, with_made}
 use Rattle.bc_progress.specs.mpy_base.Val.{Val, Nil, Str, At, PlainWorld}
 use Rattle.bc_progress.specs.py_values.Shown.{PlainHeap}
-use Rattle.bc_progress.specs.py_primitives.Outcome.{Stop, Outcome, gives, is_full, followed_by, making}
+use Rattle.bc_progress.specs.py_primitives.Outcome.{Stop, Raises, Full, Outcome, gives, is_full, followed_by, making}
 use Rattle.bc_progress.specs.py_primitives.Uses.{put_pair}
 use Rattle.bc_progress.specs.py_effects.Effect.{Effect, does, number_of}
 use Rattle.bc_progress.specs.py_effects.Modules.{make_function, Made, registered, making_module, make_module, registered_as, forget_module, module_or_port, module_named, last_part, stored_in, stored_under, outer_name, store_module}
 use Rattle.bc_progress.specs.bc_machine.Library.{Name, Library}
 use Rattle.bc_progress.proofs.Knowing.{made_there}
 use Rattle.snap_kept.specs.Texts.{IsName, IsText}
-use Rattle.snap_kept.specs.Values.{NamesOf, IsNamespace, IsPlain, IsFunction, IsModuleName, IsModule, cells_in, IsFine, AreFine}
+use Rattle.snap_kept.specs.Values.{title_of, NamesOf, IsNamespace, IsPlain, IsFunction, IsModuleName, IsModule, cells_in, IsFine, AreFine}
 use Rattle.snap_kept.specs.Effects.{IsSound}
-use Rattle.snap_kept.proofs.Onward.{Obj, core, Onward, kind_on, namespace_on, fine_on, onward_same, function_on}
+use Rattle.snap_kept.proofs.Onward.{Obj, core, Onward, title_kind, title_on, namespace_on, fine_on, onward_same, function_on}
 use Rattle.snap_kept.proofs.Changes.{Comes, comes_same, set_cells, made_cells, set_cases, set_there, set_others, made_cases, made_old, none_used, made_onward, names_dict, plain_at}
 use Rattle.snap_kept.proofs.Lists.{each_append, each_filter}
 use Rattle.snap_kept.proofs.Making.{IsIn, onto, followed, making_in}
@@ -29,6 +29,10 @@ module _ (library : Library) where
   -- a module that was made
   abbrev pub MadeIn : PlainHeap → Made → Type 0
   MadeIn h made = IsA h.objects AModule made.number × IsNamespace h made.names
+
+  -- one that was made with this name, before it is registered
+  abbrev pub MadeAs : Name → PlainHeap → Made → Type 0
+  MadeAs name h made = (title_of (object h.objects made.number) ≡ Some name) × IsNamespace h made.names
 
   module _ (h : PlainHeap) (f : AreFine library h) (name : Name) (is_name : IsModuleName library name) (text : IsText library name) where
     abbrev o1 : Object Val (List ℕ)
@@ -153,51 +157,52 @@ module _ (library : Library) where
     end stored last = gives (record { number = n; names = d }) last
 
     -- the module's own name goes into its names
-    filled_in : IsIn library MadeIn h (followed_by (put h3) end)
+    filled_in : IsIn library (MadeAs name) h (followed_by (put h3) end)
     filled_in =
         let names : IsNamespace h3 d = (n, ap names_of module_last) in
         let o = followed_by (put h3) end in
-        onto library MadeIn h h3 o.heap o.answer last_comes
-        (followed library (IsPlain library) MadeIn h3 (put h3) end (name_in library h3 last_comes.fine d (codes "__name__") (Str name) names IsName.own_name text) (λ v c p.
-        (comes_same library (put h3).heap c.fine, (kind_on h3 (put h3).heap c.onward n AModule (ap kind_of module_last), namespace_on h3 (put h3).heap c.onward d names))))
+        onto library (MadeAs name) h h3 o.heap o.answer last_comes
+        (followed library (IsPlain library) (MadeAs name) h3 (put h3) end (name_in library h3 last_comes.fine d (codes "__name__") (Str name) names IsName.own_name text) (λ v c p.
+        (comes_same library (put h3).heap c.fine, (title_on h3 (put h3).heap c.onward n name (ap title_of module_last), namespace_on h3 (put h3).heap c.onward d names))))
 
     names_are : with_names h2 n d ≡ h3
     names_are = ap (λ z. record h2 { objects = set h2.objects n (named z d) }) module_there
 
-    named_in : IsIn library MadeIn h (followed_by (put (with_names h2 n d)) end)
-    named_in = subst (λ g. IsIn library MadeIn h (followed_by (put g) end)) (sym names_are) filled_in
+    named_in : IsIn library (MadeAs name) h (followed_by (put (with_names h2 n d)) end)
+    named_in = subst (λ g. IsIn library (MadeAs name) h (followed_by (put g) end)) (sym names_are) filled_in
 
     abbrev dicts : Val → PlainHeap → Outcome Made
     dicts names last = followed_by (put_pair (with_names last n (number_of names)) (number_of names) (Str (codes "__name__")) (Str name)) (λ stored z. gives (record { number = n; names = number_of names }) z)
 
-    dict_made : (b : Bool) → IsIn library MadeIn h (followed_by (cond b (gives (At d) h2) (is_full h1 (cells_of o2) (bytes_of o2))) dicts)
+    dict_made : (b : Bool) → IsIn library (MadeAs name) h (followed_by (cond b (gives (At d) h2) (is_full h1 (cells_of o2) (bytes_of o2))) dicts)
     dict_made true = named_in
     dict_made false = tt
 
     abbrev modules : Val → PlainHeap → Outcome Made
     modules m behind = followed_by (making behind (DictObject [] 4)) (λ names last. followed_by (put_pair (with_names last (number_of m) (number_of names)) (number_of names) (Str (codes "__name__")) (Str name)) (λ stored z. gives (record { number = number_of m; names = number_of names }) z))
 
-    module_made : (b : Bool) → IsIn library MadeIn h (followed_by (cond b (gives (At n) h1) (is_full h (cells_of o1) (bytes_of o1))) modules)
+    module_made : (b : Bool) → IsIn library (MadeAs name) h (followed_by (cond b (gives (At n) h1) (is_full h (cells_of o1) (bytes_of o1))) modules)
     module_made true = dict_made (does_fit h1 (cells_of o2) (bytes_of o2))
     module_made false = tt
 
-    pub making_module_in : IsIn library MadeIn h (followed_by (making h o1) modules)
+    pub making_module_in : IsIn library (MadeAs name) h (followed_by (making h o1) modules)
     making_module_in = module_made (does_fit h (cells_of o1) (bytes_of o1))
 
   module _ (w : PlainWorld) (s : IsSound library w) where
-    made_by : (name : Name) (e : Effect Made) (r : Result Made Stop) → e.answer ≡ r → AnswerW library MadeIn w e.world r → EffectIn library MadeIn w (elim r [ Ok made ↦ record { answer = Ok made; world = registered e.world name made; visits = 0 } | Err stop ↦ e ])
+    made_by : (name : Name) (e : Effect Made) (r : Result Made Stop) → e.answer ≡ r → AnswerW library (MadeAs name) w e.world r → EffectIn library MadeIn w (elim r [ Ok made ↦ record { answer = Ok made; world = registered e.world name made; visits = 0 } | Err stop ↦ e ])
     made_by name e (Ok made) q p =
         let c = p.0 in (
           record {
             onward = c.onward;
-            sound = record { heap = c.sound.heap; modules = each_append (λ (m : List ℕ × ℕ). IsA e.world.heap.objects AModule (m.1)) e.world.modules ((name, made.number) ∷ []) c.sound.modules ((p.1).0, tt) };
+            sound = record { heap = c.sound.heap; titles = each_append (λ (m : List ℕ × ℕ). title_of (object e.world.heap.objects (m.1)) ≡ Some (m.0)) e.world.modules ((name, made.number) ∷ []) c.sound.titles ((p.1).0, tt) };
           },
-          p.1,
+          (title_kind (object e.world.heap.objects made.number) name (p.1).0, (p.1).1),
         )
-    made_by name e (Err stop) q p = subst (AnswerW library MadeIn w e.world) (sym q) p
+    made_by name e (Err (Raises fault)) q p = subst (AnswerW library MadeIn w e.world) (sym q) p
+    made_by name e (Err (Full room)) q p = subst (AnswerW library MadeIn w e.world) (sym q) p
 
     pub module_in : (name : Name) → IsModuleName library name → IsText library name → EffectIn library MadeIn w (make_module w name)
-    module_in name is_name text = made_by name (making_module w name) (making_module w name).answer refl (heap_in library MadeIn w (followed_by (making w.heap (ModuleObject name None)) (modules w.heap s.heap name is_name text)) s (making_module_in w.heap s.heap name is_name text))
+    module_in name is_name text = made_by name (making_module w name) (making_module w name).answer refl (heap_in library (MadeAs name) w (followed_by (making w.heap (ModuleObject name None)) (modules w.heap s.heap name is_name text)) s (making_module_in w.heap s.heap name is_name text))
 
     pub function_in : (name module_name : Name) (code names : ℕ) (defaults : Val) → IsFunction library w.heap name module_name code names defaults → E library w s (make_function w name module_name code names defaults)
     function_in name module_name code names defaults is =
@@ -208,15 +213,15 @@ module _ (library : Library) where
     pub forget_in : (name : Name) → WorldComes library w (forget_module w name)
     forget_in name = record {
       onward = onward_same w.heap;
-      sound = record { heap = s.heap; modules = each_filter (λ (m : List ℕ × ℕ). IsA w.heap.objects AModule (m.1)) _ w.modules s.modules };
+      sound = record { heap = s.heap; titles = each_filter (λ (m : List ℕ × ℕ). title_of (object w.heap.objects (m.1)) ≡ Some (m.0)) _ w.modules s.titles };
     }
 
-    registered_in : (modules : List (List ℕ × ℕ)) (name : Name) (m : ℕ) → Each (λ m. IsA w.heap.objects AModule (m.1)) modules → registered_as modules name ≡ Some m → IsA w.heap.objects AModule m
+    registered_in : (modules : List (List ℕ × ℕ)) (name : Name) (m : ℕ) → Each (λ m. title_of (object w.heap.objects (m.1)) ≡ Some (m.0)) modules → registered_as modules name ≡ Some m → IsA w.heap.objects AModule m
     registered_in [] name m p e = absurd cc
     registered_in (x ∷ modules) name m p e = by (bytes_eq (x.0) name) e (registered_in modules name m (p.1))
       where
         by : (b : Bool) → cond b (Some (x.1)) (registered_as modules name) ≡ Some m → (registered_as modules name ≡ Some m → IsA w.heap.objects AModule m) → IsA w.heap.objects AModule m
-        by true q rest = let same : x.1 ≡ m = cc in subst (IsA w.heap.objects AModule) same (p.0)
+        by true q rest = let same : x.1 ≡ m = cc in subst (IsA w.heap.objects AModule) same (title_kind (object w.heap.objects (x.1)) (x.0) (p.0))
         by false q rest = rest q
 
     -- the number of a module is a plain value
@@ -224,7 +229,7 @@ module _ (library : Library) where
     module_plain m is = plain_at library w.heap m AModule s.heap is (λ e. cc)
 
     or_port_in : (name : Name) (o : Option ℕ) → registered_as w.modules name ≡ o → IsPlain library w.heap (module_or_port o)
-    or_port_in name (Some m) e = module_plain m (registered_in w.modules name m s.modules e)
+    or_port_in name (Some m) e = module_plain m (registered_in w.modules name m s.titles e)
     or_port_in name None e = refl
 
     pub named_module_in : (name : Name) → IsPlain library w.heap (module_named w name)

@@ -10,7 +10,7 @@ use Rattle.bc_progress.specs.py_values.Shown.{PlainHeap, shown_object}
 use Rattle.bc_progress.specs.py_values.Keys.{PlainKey, shown_key, key_of, has_key, is_same_key}
 use Rattle.bc_progress.specs.bc_machine.Library.{Name, Library}
 use Rattle.bc_progress.specs.Known.{HasMethod, KindHas}
-use Rattle.snap_kept.specs.Values.{IsThere, NamesOf, IsNamespace, count_shown, count_of, Differ, IsPlain, IsPair, IsDict, IsFunction, IsFine}
+use Rattle.snap_kept.specs.Values.{IsThere, title_of, NamesOf, IsNamespace, count_shown, count_of, Differ, IsPlain, IsPair, IsDict, IsFunction, IsFine}
 
 abbrev pub Obj : Type 0
 Obj = Option (Object Val (List ℕ))
@@ -51,6 +51,31 @@ names_core (Some (ExceptionObject kind args file line name)) = refl
 names_core (Some (MethodObject v method)) = refl
 names_core (Some (RangeObject start stop step)) = refl
 names_core (Some (ModuleObject name names)) = refl
+
+title_core : (o : Obj) → title_of (core o) ≡ title_of o
+title_core None = refl
+title_core (Some (ListObject items room)) = refl
+title_core (Some (TupleObject items)) = refl
+title_core (Some (TextObject bytes)) = refl
+title_core (Some (DictObject pairs room)) = refl
+title_core (Some (FunctionObject name module_name code names defaults)) = refl
+title_core (Some (ExceptionObject kind args file line name)) = refl
+title_core (Some (MethodObject v method)) = refl
+title_core (Some (RangeObject start stop step)) = refl
+title_core (Some (ModuleObject name names)) = refl
+
+-- what has a name as a module is one
+pub title_kind : (o : Obj) (name : List ℕ) → title_of o ≡ Some name → kind_of o ≡ Some AModule
+title_kind (Some (ModuleObject title names)) name e = refl
+title_kind None name e = absurd cc
+title_kind (Some (ListObject items room)) name e = absurd cc
+title_kind (Some (TupleObject items)) name e = absurd cc
+title_kind (Some (TextObject bytes)) name e = absurd cc
+title_kind (Some (DictObject pairs room)) name e = absurd cc
+title_kind (Some (FunctionObject title module_name code names defaults)) name e = absurd cc
+title_kind (Some (ExceptionObject kind args file line title)) name e = absurd cc
+title_kind (Some (MethodObject v method)) name e = absurd cc
+title_kind (Some (RangeObject start stop step)) name e = absurd cc
 
 count_core : (o : Obj) → count_shown (shown_object (core o)) ≡ count_shown (shown_object o)
 count_core None = refl
@@ -101,6 +126,11 @@ module _ (h k : PlainHeap) (on : Onward h k) where
   kind_on n kind is =
       let x = there_by (object h.objects n) kind is in
       sym (kind_core (object k.objects n)) ∙ ap kind_of (on.stays n x.0 x.1) ∙ kind_core (Some x.0) ∙ ap kind_of (sym x.1) ∙ is
+
+  pub title_on : (n : ℕ) (name : List ℕ) → title_of (object h.objects n) ≡ Some name → title_of (object k.objects n) ≡ Some name
+  title_on n name e =
+      let x = there_by (object h.objects n) AModule (title_kind (object h.objects n) name e) in
+      sym (title_core (object k.objects n)) ∙ ap title_of (on.stays n x.0 x.1) ∙ title_core (Some x.0) ∙ ap title_of (sym x.1) ∙ e
 
   pub there_on : (n : ℕ) → IsThere h n → IsThere k n
   there_on n x =

@@ -83,7 +83,7 @@ module _ (library : Library) where
       (given_in library place (record { file = IsName.nameless; name = IsName.nameless }) (MadeIn library) w (make_module w (codes "__main__")) (made_module_in library w s (codes "__main__") (inl refl) (inl IsName.main_name)))
 
   pub new_sound : (cells bytes : ℕ) (ports : List PortState) → IsSound library (new_world cells bytes ports)
-  new_sound cells bytes ports = record { heap = record { cells = omega arith; fine = λ n o e. absurd (none_there n o e) }; modules = tt }
+  new_sound cells bytes ports = record { heap = record { cells = omega arith; fine = λ n o e. absurd (none_there n o e) }; titles = tt }
     where
       none_there : (n : ℕ) (o : Object Val (List ℕ)) → object [] n ≡ Some o → ⊥
       none_there n o e = cc

@@ -24,6 +24,11 @@ NamesOf heap m names = names_of (object heap.objects m) ≡ Some names
 abbrev pub IsNamespace : PlainHeap → ℕ → Type 0
 IsNamespace heap names = (m : ℕ) × NamesOf heap m names
 
+-- the name of a module's object
+abbrev pub title_of : Option (Object Val (List ℕ)) → Option (List ℕ)
+title_of (Some (ModuleObject name names)) = Some name
+title_of _ = None
+
 -- how many items a tuple has
 abbrev pub count_shown : Shown → Option ℕ
 count_shown (Tuple items) = Some (length items)

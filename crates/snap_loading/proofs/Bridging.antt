@@ -94,9 +94,9 @@ same_lists (x ∷ xs) (y ∷ ys) n h = ap₂ (λ a zs. a ∷ zs) (h 0 x y refl r
 -- ======
 
 module _ (shelf : Shelf) (m : Module) (row : Row) (code : Code) (runs : RunsAs shelf m row code) (l : CodeList) (is : Listed row.instructions.now l) where
-  -- the machine's line of a position
-  line_is : (q : ℕ) (i : listings.Item) (line : Line) → slice_get l.items q ≡ Some i → slice_get code.lines q ≡ Some line → action (length l.items) i ≡ action_of line.item
-  line_is q i line e f =
+  -- the machine's line of a position has the file's instruction
+  pub line_item : (q : ℕ) (i : listings.Item) (line : Line) → slice_get l.items q ≡ Some i → slice_get code.lines q ≡ Some line → line.item ≡ item_of (length l.items) (resolved m i)
+  line_item q i line e f =
       let bytes = row.instructions.now in
       let many = each bytes l is in
       let within = slice_get_within l.items q i e in
@@ -118,9 +118,10 @@ module _ (shelf : Shelf) (m : Module) (row : Row) (code : Code) (runs : RunsAs s
       ap (λ z. slice_get code.lines z) (sym here) ∙ runs.line l at s.instr end is starts reads in
       let same : line ≡ line_at m (length l.items) row.line_table.now at (item l.offsets end s.instr) = some_is _ _ (sym f ∙ own) in
       let item_same : i ≡ item l.offsets end s.instr = some_is _ _ (sym e ∙ s.item_is) in
-      let regular : IsRegular i = list_regular bytes l.items is.is_list q i e in
-      action_same m (length l.items) i regular
-      ∙ (ap (λ z. action_of (item_of (length l.items) (resolved m z))) item_same ∙ ap (λ (z : Line). action_of z.item) (sym same))
+      ap (λ (z : Line). z.item) same ∙ ap (λ z. item_of (length l.items) (resolved m z)) (sym item_same)
+
+  line_is : (q : ℕ) (i : listings.Item) (line : Line) → slice_get l.items q ≡ Some i → slice_get code.lines q ≡ Some line → action (length l.items) i ≡ action_of line.item
+  line_is q i line e f = action_same m (length l.items) i (list_regular row.instructions.now l.items is.is_list q i e) ∙ ap action_of (sym (line_item q i line e f))
 
   actions_are : map (λ (z : Line). action_of z.item) code.lines ≡ map (action (length l.items)) l.items
   actions_are =
@@ -143,8 +144,11 @@ pub record IsFlow (p : Program) (m k : ℕ) (body : Body) (offsets : List ℕ) :
   pub flow_is : flow_of (p.plans (p.tables.module_name m) k) code
       ≡ record (verify.flow_of body) { n_state = (p.plans (p.tables.module_name m) k).n_state; n_exc = (p.plans (p.tables.module_name m) k).n_exc }
   pub meets : Meets (flow_of (p.plans (p.tables.module_name m) k) code) (p.plans (p.tables.module_name m) k).assigned
+  -- its lines have the file's instructions
+  pub file : Module
+  pub lines_are : (q : ℕ) (i : listings.Item) (line : Line) → slice_get body.items q ≡ Some i → slice_get code.lines q ≡ Some line → line.item ≡ item_of (length body.items) (resolved file i)
 
-held_by : (o : Option Entry) (k : ℕ) (code : Code) → code_in (module_in o) k ≡ Some code → (mm : machine.Module) × (o ≡ Some (Holds mm)) × (slice_get mm.codes k ≡ Some code)
+pub held_by : (o : Option Entry) (k : ℕ) (code : Code) → code_in (module_in o) k ≡ Some code → (mm : machine.Module) × (o ≡ Some (Holds mm)) × (slice_get mm.codes k ≡ Some code)
 held_by None k code e = absurd cc
 held_by (Some Refused) k code e = absurd cc
 held_by (Some (Holds mm)) k code e = (mm, refl, e)
@@ -185,4 +189,6 @@ is_flow p m k row placed body offsets means is_row is there says =
           ap (λ z. let c : flow.Code = record { actions = z; n_state = plan.n_state; n_exc = plan.n_exc; locals = is.code.locals } in c) actions
           ∙ ap (λ z. let c : flow.Code = record { actions = map (action (length body.items)) body.items; n_state = plan.n_state; n_exc = plan.n_exc; locals = z } in c) locals_same;
       meets = verified.meets;
+      file = is.m;
+      lines_are = line_item p.shelf is.m row is.code is.runs l own;
     }

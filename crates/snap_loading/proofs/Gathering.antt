@@ -17,9 +17,10 @@ use Rattle.vm_starting.specs.declared.opening.Vm.{Vm}
 use Rattle.vm_machine.specs.prim_walks.Plain.{plain_heap}
 use Rattle.vm_machine.specs.Machine.{paid_state, world_in, machine_of, IsVm}
 use Rattle.snap_laws.specs.Filled.{AreFilled, HoldsBytes}
+use Rattle.snap_laws.specs.Kept.{WaitBelow, WaitsWell}
 use Rattle.snap_kept.specs.Effects.{IsSound}
 use Rattle.snap_kept.specs.Frames.{IsFrame, IsKept}
-use Rattle.snap_loading.specs.Saved.{AreTitled, Keeps, IsSaved}
+use Rattle.snap_loading.specs.Saved.{Keeps, IsSaved}
 
 -- the heap of the machine, as the program has it
 abbrev pub heap_in : Program → Vm → PlainHeap
@@ -34,7 +35,8 @@ pub record Gathered (p : Program) (vm : Vm) : Type 0 where
   pub frames : Each (IsFrame p.library (heap_in p vm)) (map (frame_of (view_of p.tables)) vm.frames.calls)
   pub filled : AreFilled (heap_in p vm)
   pub bytes : HoldsBytes (heap_in p vm)
-  pub titled : AreTitled (world_in p vm some_world)
+  -- the frames below the innermost one wait as it began
+  pub waits : (c : Call) (rest : List Call) → vm.frames.calls ≡ c ∷ rest → WaitBelow p.library (frame_of (view_of p.tables) c).role (map (frame_of (view_of p.tables)) rest)
 
 -- the calls run, since there are some
 abbrev Found : Program → List Call → PlainWorld → Type 0
@@ -66,5 +68,5 @@ gathered shelf vm p is saved program =
       frames = found.1;
       filled = subst (λ (z : PlainWorld). AreFilled z.heap) same keeps.filled;
       bytes = subst (λ (z : PlainWorld). HoldsBytes z.heap) same keeps.bytes;
-      titled = subst AreTitled same keeps.titled;
+      waits = λ c rest e. subst (λ z. WaitsWell p.library (running_of p.tables vm.paid z w)) e keeps.waits;
     }

@@ -3,9 +3,11 @@ pub mod Counted
 pub mod Counting
 pub mod Entitled
 mod Filing
+mod Fining
 pub mod Filled
 pub mod Finding
 mod Gathering
+mod Granting
 pub mod Hollowing
 mod Joining
 pub mod Knowing
@@ -14,7 +16,9 @@ pub mod Matching
 pub mod Mixing
 pub mod Numbered
 pub mod Numbering
+mod Objectwise
 mod PaidToo
+mod Partwise
 pub mod Putting
 mod Registering
 mod Resuming
@@ -27,6 +31,7 @@ mod Slotting
 mod Solely
 mod Standing
 mod Stated
+mod Tabled
 pub mod Valuing
 pub mod Besides
 pub mod Stacking
@@ -37,3 +42,11 @@ mod Judged
 mod Laying
 pub mod Readied
 mod Roomy
+pub mod Causing
+pub mod Decoding
+mod Leasting
+pub mod Likening
+pub mod Reframing
+mod Suspending
+pub mod Fitted
+pub mod Framewise

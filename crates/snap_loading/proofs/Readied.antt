@@ -42,7 +42,7 @@ use Rattle.snap_states.specs.States.{AreFineFrames, AreFineObjects, IsFineFrame,
 use Rattle.snap_states.specs.Decoded.{AreCallsOf, IsDecoded, entry_of, heap_of, modules_of}
 use Rattle.snap_states.specs.Decoded as decoded
 use Rattle.snap_loading.specs.Coded.{HasCode}
-use Rattle.snap_loading.specs.Given.{IsLibrary, HasRow, HasRows}
+use Rattle.snap_loading.specs.Given.{IsLibrary, HasRow, HasRows, IsTabled}
 use Rattle.snap_loading.proofs.Bridging.{get_there}
 use Rattle.snap_loading.proofs.Knowing.{all_told}
 use Rattle.snap_loading.proofs.Lying.{objects_in}
@@ -64,6 +64,9 @@ library_is shelf titles first few are = record {
       (t.0.name, (are.each i t.0 n t.1 at).name_is)
       );
 }
+
+pub library_of : (shelf : Shelf) (vm : Vm) → IsTabled shelf → IsVm shelf vm → IsLibrary shelf
+library_of shelf vm tabled is = library_is shelf vm.names.items tabled.first tabled.few is.memory.names
 
 -- slots
 -- =====

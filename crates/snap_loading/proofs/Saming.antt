@@ -15,7 +15,7 @@ use Rattle.arena_heap.specs.declared.value.StrNo.{StrNo}
 use Rattle.arena_heap.specs.declared.value.StrNo.TheVariants as strs
 use Rattle.arena_heap.specs.declared.value.ConstNo.{ConstNo}
 use Rattle.arena_heap.specs.Values.{ArenaObject}
-use Rattle.bc_library.specs.Constants.{text_at, numbered}
+use Rattle.bc_library.specs.Constants.{items_at, text_at, numbered}
 use Rattle.bc_library.specs.Shelf.{Shelf, Named, names, member_by}
 use Rattle.bc_library.proofs.bc_verify_lemmas.qstr_pool_lemmas.Places.{found}
 use Rattle.bc_machine.specs.py_values.Shown.{PlainHeap}
@@ -27,11 +27,11 @@ use Rattle.vm_starting.specs.vm_states.Means.{Program}
 use Rattle.vm_starting.specs.Programs.{FindsAll, IsProgramOf}
 use Rattle.vm_starting.specs.declared.opening.Vm.{Vm}
 use Rattle.vm_machine.specs.prim_walks.Plain.{vals_from, fixed_of, plain_by, fixed_within, plain, plain_pair, plain_name, plain_object, plain_heap}
-use Rattle.snap_saving.specs.Shown.{place_in, name_of, module_part, value_part, pair_part, object_part, registered_part, snapshot_of}
+use Rattle.snap_saving.specs.Shown.{place_in, name_of, fixed_part, module_part, value_part, pair_part, object_part, registered_part, snapshot_of}
 use Rattle.snap_laws.specs.Renamed.{Renaming, IsRenamed, value, items_as, pair, object_as}
 use Rattle.snap_laws.specs.Worlds.{module_as}
 use Rattle.snap_kept.specs.Texts.{IsConstant, AreConstant}
-use Rattle.snap_kept.specs.Values.{IsThere, NamesOf, IsPlain, IsPair, IsFine, AreFine}
+use Rattle.snap_kept.specs.Values.{IsThere, title_of, NamesOf, IsPlain, IsPair, IsFine, AreFine}
 use Rattle.snap_grammar.specs.declared.parts.ValuePart.{ValuePart}
 use Rattle.snap_grammar.specs.declared.parts.ValuePart.TheVariants as parts
 use Rattle.snap_grammar.specs.declared.parts.PairPart.{PairPart}
@@ -39,18 +39,18 @@ use Rattle.snap_grammar.specs.declared.parts.ObjectPart.{ObjectPart}
 use Rattle.snap_grammar.specs.declared.parts.ObjectPart.TheVariants as objects
 use Rattle.snap_grammar.specs.declared.parts.Snapshot.{Snapshot}
 use Rattle.snap_states.specs.Decoded.{builtin_called, kind_called}
-use Rattle.snap_loading.specs.Same.{HasNames, BeginsFirst, AreSameWorlds}
-use Rattle.snap_loading.specs.Saved.{title_of}
+use Rattle.snap_loading.specs.Same.{BeginsFirst, AreSameWorlds}
 use Rattle.snap_loading.proofs.Bridging.{get_map}
 use Rattle.snap_loading.proofs.Finding.{builtin_found, kind_found}
 use Rattle.snap_loading.proofs.Matching.{has, count, before, object_cell, blank_cell, object_has, object_before, object_back, blank_has, before_is, before_count, part_at, parts_count, matched, matched_object, matched_blank, matching}
 use Rattle.snap_loading.proofs.Saving.{plain_at}
+use Rattle.snap_loading.specs.Given.{HasNames}
 
 some_is : {A : Type 0} (x y : A) → Some x ≡ Some y → x ≡ y
 some_is x y e = cc
 
 -- an object of a kind is there
-there_of : (heap : PlainHeap) (kind : ObjectKind) (n : ℕ) → IsA heap.objects kind n → IsThere heap n
+pub there_of : (heap : PlainHeap) (kind : ObjectKind) (n : ℕ) → IsA heap.objects kind n → IsThere heap n
 there_of heap kind n is = by (object heap.objects n) refl is
   where
     by : (o : Option (Object Val (List ℕ))) → object heap.objects n ≡ o → kind_of o ≡ Some kind → IsThere heap n
@@ -110,10 +110,10 @@ module _ (library : Library) (heap : PlainHeap) where
 -- =====================
 
 -- a module's name, and a code's
-abbrev title_in : Shelf → ℕ → Name
+abbrev pub title_in : Shelf → ℕ → Name
 title_in shelf m = unwrap_or (slice_get (names shelf) m) []
 
-abbrev name_in : Option Code → Name
+abbrev pub name_in : Option Code → Name
 name_in (Some code) = code.name
 name_in None = []
 
@@ -145,8 +145,8 @@ module _ (shelf : Shelf) (library : Library) (texts : StrNo → Option (List ℕ
   object_in at (objects.Range start stop step) = RangeObject start stop step
   object_in at (objects.Module name names) = ModuleObject name (Some (at names))
 
-  module _ (same : texts ≡ text_at shelf) (finds : FindsAll shelf library) (some_names : (i : ℕ) (n : Named) → slice_get shelf.modules i ≡ Some n → n.name ≢ []) where
-    told : (s : StrNo) → or_nothing (texts s) ≡ unwrap_or (text_at shelf s) []
+  module _ (same : texts ≡ text_at shelf) (same_tuples : tuples ≡ items_at shelf) (finds : FindsAll shelf library) (some_names : (i : ℕ) (n : Named) → slice_get shelf.modules i ≡ Some n → n.name ≢ []) where
+    pub told : (s : StrNo) → or_nothing (texts s) ≡ unwrap_or (text_at shelf s) []
     told s = ap (λ (t : StrNo → Option (List ℕ)). or_nothing (t s)) same ∙ by (text_at shelf s)
       where
         by : (o : Option (List ℕ)) → or_nothing o ≡ unwrap_or o []
@@ -198,13 +198,20 @@ module _ (shelf : Shelf) (library : Library) (texts : StrNo → Option (List ℕ
       fixed_same c h =
           let items = map (plain_by texts (fixed_within texts tuples 31)) (or_nothing (tuples c)) in sym (fixed_stays r library heap items (given_fixed items h))
 
+      -- a constant tuple's part has its plain value
+      by_items : (c : ConstNo) (o : Option (List Value)) → tuples c ≡ o → value_in at (fixed_part c o) ≡ plain texts tuples (values.Fixed c)
+      unfolding fixed_within
+      by_items c (Some (v ∷ vs)) e = refl
+      by_items c (Some []) e = sym (ap (λ o. fixed_of (map (plain_by texts (fixed_within texts tuples 31)) (or_nothing o))) e)
+      by_items c None e = sym (ap (λ o. fixed_of (map (plain_by texts (fixed_within texts tuples 31)) (or_nothing o))) e)
+
       pub value_by : (v : Value) → Given library heap (plain texts tuples v) → value_in at (value_part shelf place v) ≡ value r (plain texts tuples v)
       value_by values.None h = refl
       value_by (values.Bool true) h = refl
       value_by (values.Bool false) h = refl
       value_by (values.Int z) h = refl
       value_by (values.Str s) h = ap (λ z. Str z) (sym (told s))
-      value_by (values.Fixed c) h = fixed_same c h
+      value_by (values.Fixed c) h = by_items c (items_at shelf c) (ap (λ (t : ConstNo → Option (List Value)). t c) same_tuples) ∙ fixed_same c h
       value_by values.Empty h = refl
       value_by (values.Built b) h = ap (λ z. Built (unwrap_or z builtins.Print)) (builtin_found b)
       value_by (values.List l) h = ap (λ z. At z) (at_is l.cell h)
@@ -307,14 +314,14 @@ own_object (Some (ModuleObject name names)) = ap (λ z. Some (ModuleObject name 
 -- two heaps
 -- =========
 
-has_one : {V N : Type 0} (xs : List (Option (Object V N))) (n : ℕ) → has xs n ≡ true → (o : Object V N) × (object xs n ≡ Some o)
+pub has_one : {V N : Type 0} (xs : List (Option (Object V N))) (n : ℕ) → has xs n ≡ true → (o : Object V N) × (object xs n ≡ Some o)
 has_one {V = V} {N = N} xs n e = by (object xs n) refl e
   where
     by : (o : Option (Object V N)) → object xs n ≡ o → is_some o ≡ true → (o : Object V N) × (object xs n ≡ Some o)
     by None f g = absurd cc
     by (Some o) f g = (o, f)
 
-has_none : {V N : Type 0} (xs : List (Option (Object V N))) (n : ℕ) → has xs n ≡ false → object xs n ≡ None
+pub has_none : {V N : Type 0} (xs : List (Option (Object V N))) (n : ℕ) → has xs n ≡ false → object xs n ≡ None
 has_none {V = V} {N = N} xs n e = by (object xs n) refl e
   where
     by : (o : Option (Object V N)) → object xs n ≡ o → is_some o ≡ false → object xs n ≡ None
@@ -326,9 +333,9 @@ pub parts_as_many : (shelf : Shelf) (h k : Heap Value ℕ) → filter_map (optio
 parts_as_many shelf h k parts =
     sym (parts_count (object_part shelf (place_in h)) h.objects) ∙ (ap (λ z. length z) parts ∙ parts_count (object_part shelf (place_in k)) k.objects)
 
-module _ (shelf : Shelf) (library : Library) (texts : StrNo → Option (List ℕ)) (tuples : ConstNo → Option (List Value)) (same : texts ≡ text_at shelf) (finds : FindsAll shelf library)
+module _ (shelf : Shelf) (library : Library) (texts : StrNo → Option (List ℕ)) (tuples : ConstNo → Option (List Value)) (same : texts ≡ text_at shelf) (same_tuples : tuples ≡ items_at shelf) (finds : FindsAll shelf library)
     (some_names : (i : ℕ) (n : Named) → slice_get shelf.modules i ≡ Some n → n.name ≢ []) where
-  plain_there : (heap : Heap Value ℕ) (n : ℕ) → IsThere (plain_heap texts tuples heap) n → has heap.objects n ≡ true
+  pub plain_there : (heap : Heap Value ℕ) (n : ℕ) → IsThere (plain_heap texts tuples heap) n → has heap.objects n ≡ true
   plain_there heap n h = by (object heap.objects n) refl (sym (plain_at texts tuples heap.objects n) ∙ h.1)
     where
       by : (o : Option ArenaObject) → object heap.objects n ≡ o → plain_object texts tuples o ≡ Some h.0 → has heap.objects n ≡ true
@@ -336,7 +343,7 @@ module _ (shelf : Shelf) (library : Library) (texts : StrNo → Option (List ℕ
       by (Some o) f g = ap is_some f
 
   -- the dict of a module's names is there
-  spaces : (heap : Heap Value ℕ) → AreFine library (plain_heap texts tuples heap) → (m names : ℕ) → NamesOf (plain_heap texts tuples heap) m names → IsThere (plain_heap texts tuples heap) names
+  pub spaces : (heap : Heap Value ℕ) → AreFine library (plain_heap texts tuples heap) → (m names : ℕ) → NamesOf (plain_heap texts tuples heap) m names → IsThere (plain_heap texts tuples heap) names
   spaces heap fine m names e = by (object (plain_heap texts tuples heap).objects m) refl e
     where
       by : (o : Option (Object Val (List ℕ))) → object (plain_heap texts tuples heap).objects m ≡ o → names_of o ≡ Some names → IsThere (plain_heap texts tuples heap) names
@@ -355,7 +362,7 @@ module _ (shelf : Shelf) (library : Library) (texts : StrNo → Option (List ℕ
       by None f g = absurd cc
 
   -- what an object holds
-  fine_at : (heap : Heap Value ℕ) → AreFine library (plain_heap texts tuples heap) → (n : ℕ) (o : ArenaObject) → object heap.objects n ≡ Some o
+  pub fine_at : (heap : Heap Value ℕ) → AreFine library (plain_heap texts tuples heap) → (n : ℕ) (o : ArenaObject) → object heap.objects n ≡ Some o
       → Fine library (plain_heap texts tuples heap) n (plain_object texts tuples (Some o))
   fine_at heap fine n o e = by (plain_object texts tuples (Some o)) (plain_at texts tuples heap.objects n ∙ ap (plain_object texts tuples) e)
     where
@@ -387,8 +394,8 @@ module _ (shelf : Shelf) (library : Library) (texts : StrNo → Option (List ℕ
           let second = part_at (object_part shelf (place_in k)) k.objects m b f in
           let part : object_part shelf (place_in h) a ≡ object_part shelf (place_in k) b =
           some_is _ _ (sym first ∙ (ap₂ (λ z i. slice_get z i) parts at_same ∙ second)) in
-          let first_is = object_by shelf library texts tuples same finds some_names (plain_heap texts tuples h) r (place_in h) at at_other (spaces h fine) n a (fine_at h fine n a e) in
-          let second_is = object_by shelf library texts tuples same finds some_names (plain_heap texts tuples k) own (place_in k) at at_own (spaces k other) m b (fine_at k other m b f) in
+          let first_is = object_by shelf library texts tuples same same_tuples finds some_names (plain_heap texts tuples h) r (place_in h) at at_other (spaces h fine) n a (fine_at h fine n a e) in
+          let second_is = object_by shelf library texts tuples same same_tuples finds some_names (plain_heap texts tuples k) own (place_in k) at at_own (spaces k other) m b (fine_at k other m b f) in
           sym (own_object (plain_object texts tuples (Some b)))
           ∙ (sym second_is ∙ (ap (λ z. Some (object_in shelf library texts tuples at z)) (sym part) ∙ first_is))
 
@@ -480,7 +487,7 @@ pub record Says (p : Program) (vm : Vm) : Type 0 where
   pub titles : Each (λ (m : List ℕ × ℕ). title_of (object (plain_heap p.tables.texts p.tables.tuples vm.arena).objects m.1) ≡ Some m.0) (plain_modules p.tables.texts p.tables.tuples vm.modules)
 
 abbrev pub Told : Shelf → Vm → Vm → Program → Type 0
-Told shelf vm other p = (p.tables.texts ≡ text_at shelf) × FindsAll shelf p.library × Says p vm × Says p other
+Told shelf vm other p = (p.tables.texts ≡ text_at shelf) × (p.tables.tuples ≡ items_at shelf) × FindsAll shelf p.library × Says p vm × Says p other
 
 pub worlds_same : (shelf : Shelf) (vm other : Vm) → HasNames shelf → BeginsFirst vm → BeginsFirst other
     → snapshot_of shelf vm.arena vm.modules vm.frames.calls vm.paid ≡ snapshot_of shelf other.arena other.modules other.frames.calls other.paid
@@ -495,12 +502,12 @@ worlds_same shelf vm other named first second e says =
       renaming = r;
       worlds = λ p program w.
           let t = says p program in
-          let a = t.2 in
-          let b = t.3 in
+          let a = t.3 in
+          let b = t.4 in
           record {
-            heap = same_heaps shelf p.library p.tables.texts p.tables.tuples t.0 t.1 named.some h k a.fine b.fine parts r (λ n. refl)
+            heap = same_heaps shelf p.library p.tables.texts p.tables.tuples t.0 t.1 t.2 named.some h k a.fine b.fine parts r (λ n. refl)
                 (sym cells) (sym (ap (λ (z : Snapshot). z.used_bytes) e)) (sym (ap (λ (z : Snapshot). z.cells) e)) (sym (ap (λ (z : Snapshot). z.bytes) e)) (omega arith);
-            modules = modules_same shelf p.library p.tables.texts p.tables.tuples t.0 t.1 named.some h k a.fine b.fine parts r (λ n. refl)
+            modules = modules_same shelf p.library p.tables.texts p.tables.tuples t.0 t.1 t.2 named.some h k a.fine b.fine parts r (λ n. refl)
                 vm.modules.entries other.modules.entries (ap (λ (z : Snapshot). z.modules) e) a.modules a.titles b.modules b.titles;
             ports = refl;
             output = refl;

@@ -10,6 +10,7 @@ use Rattle.std.proofs.lemmas.List.{length-map, length-reverse}
 use Rattle.std.proofs.lemmas.List.Elements.{All-from_recursion}
 use Rattle.std.proofs.lemmas.List.Sums.{sum_by-cons}
 use Rattle.std.proofs.lemmas.Slice.Eq.{bytes_eq-Decides}
+use Rattle.mpy_base.specs.Val.{PlainWorld}
 use Rattle.mpy_base.specs.World.{Heap, ListObject, TupleObject, TextObject, DictObject, FunctionObject, ExceptionObject, MethodObject, RangeObject, ModuleObject, ObjectKind, AModule, IsA, object, kind_of}
 use Rattle.mpy_base.specs.declared.limits.TheConstants.{MAX_CALLS}
 use Rattle.mpy_base.specs.Weights.{used}
@@ -27,21 +28,32 @@ use Rattle.vm_starting.specs.vm_states.vm_frames.Calls.{Call}
 use Rattle.vm_starting.specs.vm_states.Means.{Program}
 use Rattle.vm_starting.specs.Programs.{IsProgramOf}
 use Rattle.vm_starting.specs.declared.opening.Vm.{Vm}
-use Rattle.vm_machine.specs.Machine.{RunsProgram}
+use Rattle.vm_machine.specs.Machine.{RunsProgram, world_in}
 use Rattle.vm_machine.specs.prim_walks.Plain.{plain, plain_name, plain_object}
 use Rattle.snap_saving.specs.Shown.{place_in, name_of, value_part, object_part, registered_part, frame_part, snapshot_of}
 use Rattle.snap_laws.specs.Filled.{bytes_in, text_bytes}
-use Rattle.snap_kept.specs.Values.{cells_in, object_cells}
+use Rattle.snap_kept.specs.Values.{title_of, cells_in, object_cells}
+use Rattle.snap_kept.proofs.Onward.{title_kind}
 use Rattle.snap_grammar.specs.declared.parts.Snapshot.{Snapshot}
 use Rattle.snap_states.specs.Parts.{part_kind, cells_of_part, cells_of_parts, bytes_of_part, bytes_of_parts}
 use Rattle.snap_states.specs.States.{IsAt, name_in_part, registered_name, HasRoom, AreRegisteredParts}
-use Rattle.snap_loading.specs.Saved.{title_of, IsSaved}
+use Rattle.snap_loading.specs.Saved.{IsSaved}
 use Rattle.snap_loading.proofs.Bridging.{get_map}
-use Rattle.snap_loading.proofs.Gathering.{Gathered}
+use Rattle.snap_loading.proofs.Gathering.{some_world, Gathered}
 use Rattle.snap_loading.proofs.Matching.{before_is, part_at}
 
 some_is : {A : Type 0} (x y : A) → Some x ≡ Some y → x ≡ y
 some_is x y e = cc
+
+-- registered modules
+-- ==================
+
+pub modules_titled : (w : PlainWorld) → Each (λ (m : List ℕ × ℕ). title_of (object w.heap.objects m.1) ≡ Some m.0) w.modules → Each (λ (m : List ℕ × ℕ). IsA w.heap.objects AModule m.1) w.modules
+modules_titled w h = each w.modules h
+  where
+    each : (ms : List (List ℕ × ℕ)) → Each (λ (m : List ℕ × ℕ). title_of (object w.heap.objects m.1) ≡ Some m.0) ms → Each (λ (m : List ℕ × ℕ). IsA w.heap.objects AModule m.1) ms
+    each [] h = tt
+    each (m ∷ ms) h = (title_kind (object w.heap.objects m.1) m.0 h.0, each ms h.1)
 
 -- an object and its part
 -- ======================
@@ -107,7 +119,7 @@ module _ (texts : StrNo → Option (List ℕ)) (tuples : ConstNo → Option (Lis
   plain_at (x ∷ xs) zero = refl
   plain_at (x ∷ xs) (suc n) = plain_at xs n
 
-  plain_kind : (o : Option ArenaObject) → kind_of (plain_object texts tuples o) ≡ kind_of o
+  pub plain_kind : (o : Option ArenaObject) → kind_of (plain_object texts tuples o) ≡ kind_of o
   plain_kind None = refl
   plain_kind (Some (ListObject items room)) = refl
   plain_kind (Some (TupleObject items)) = refl
@@ -249,9 +261,9 @@ module _ (shelf : Shelf) (heap : Heap Value ℕ) (modules : Registry) (calls : L
 module _ (shelf : Shelf) (vm : Vm) (p : Program) where
   pub has_room : IsSaved shelf vm → Gathered p vm → HasRoom (saved_as shelf vm.arena vm.modules vm.frames.calls vm.paid)
   has_room saved g =
-      room shelf vm.arena vm.modules vm.frames.calls vm.paid p.tables.texts p.tables.tuples g.sound.heap.cells g.bytes.held saved.cells saved.bytes saved.few_cells saved.few_bytes
+      room shelf vm.arena vm.modules vm.frames.calls vm.paid p.tables.texts p.tables.tuples g.sound.heap.cells g.bytes.held saved.within.cells saved.within.bytes saved.within.few_cells saved.within.few_bytes
 
   pub has_modules : IsProgramOf shelf p → RunsProgram p vm → Gathered p vm → AreRegisteredParts (saved_as shelf vm.arena vm.modules vm.frames.calls vm.paid)
   has_modules program runs g =
       registered shelf vm.arena vm.modules vm.frames.calls vm.paid p.tables.texts p.tables.tuples
-      (program.means.constants.texts ∙ ap text_at program.shelf_is) g.sound.modules g.titled.titles runs.registered.own.once
+      (program.means.constants.texts ∙ ap text_at program.shelf_is) (modules_titled (world_in p vm some_world) g.sound.titles) g.sound.titles runs.registered.own.once

@@ -107,7 +107,7 @@ jumps_to a (e ∷ es) st h = (λ above rest t d it parts height. leads_to a t it
 belows_both : (ks ls : List SlotKind) → Belows ks ls → Belows ls ks → ks ≡ ls
 belows_both ks ls h g = let a = opens_below ks ls h in let b = opens_below ls ks g in sym (belows_same ks ls h (omega (arith, a, b)))
 
-grown : (a b : Assigned) (p : ℕ) (x y : At) → Grows a b → a p ≡ Some x → b p ≡ Some y → Under x y
+pub grown : (a b : Assigned) (p : ℕ) (x y : At) → Grows a b → a p ≡ Some x → b p ≡ Some y → Under x y
 grown a b p x y up e f = let l = up.each p x e in subst (Under x) (some_is l.at y (sym l.is ∙ f)) l.under
 
 least_once : (code : flow.Code) (a b : Assigned) (p : ℕ) (x y : At) → Holds code a → IsLeastOf code a → Holds code b → IsLeastOf code b → a p ≡ Some x → b p ≡ Some y → x ≡ y
@@ -153,7 +153,7 @@ module _ (laws_are : Laws) (code : flow.Code) (a b : Assigned) (n m : ℕ) (h : 
   action_is o i j e f = cc
 
   -- the least assignment keeps the rules with the rooms of each other one
-  holds_rooms : Holds (record code { n_state = n; n_exc = m }) a
+  pub holds_rooms : Holds (record code { n_state = n; n_exc = m }) a
   holds_rooms =
       let up : Grows a b = laws_are.rooms code a n m h least b g in
       record {
@@ -177,7 +177,7 @@ module _ (laws_are : Laws) (code : flow.Code) (a b : Assigned) (n m : ℕ) (h : 
 -- what a call takes
 -- =================
 
-call_action : (item : Item) (a : Action) (taken size : ℕ) → Waits (Some roles.Call) item a taken → a ≡ action size item → (ws : List Want) × (a ≡ Straight ws (New kinds.Value ∷ [])) × (taken ≡ length ws)
+pub call_action : (item : Item) (a : Action) (taken size : ℕ) → Waits (Some roles.Call) item a taken → a ≡ action size item → (ws : List Want) × (a ≡ Straight ws (New kinds.Value ∷ [])) × (taken ≡ length ws)
 unfolding action instr_action op_action takes
 call_action (items.Plain (instrs.Num ops.CallFunction n)) a taken size w e = (_, e, w ∙ ap (λ (z : Action). length (takes z)) e)
 call_action (items.Plain (instrs.Num ops.CallMethod n)) a taken size w e = (_, e, w ∙ ap (λ (z : Action). length (takes z)) e)
@@ -191,23 +191,23 @@ import_takes m _ a taken w = absurd w
 -- =========
 
 module _ (laws_are : Laws) (p : Program) (s : Snapshot) (title : ℕ → ℕ → ℕ) (is : IsLibrary p.shelf) (means : Means p) (above : Option RolePart) (f : FramePart) (fine : IsFineFrame p.shelf s above f) (row : HasRow p.shelf f) where
-  abbrev plan : Plan
+  abbrev pub plan : Plan
   plan = p.plans (p.tables.module_name f.module_number) f.code
 
   abbrev pub call : Call
   call = call_of p.shelf s (drop fine.taken fine.stands.shape.slots) f
 
-  abbrev code_of : flow.Code
+  abbrev pub code_of : flow.Code
   code_of = record (verify.flow_of fine.stands.body) { n_state = plan.n_state; n_exc = plan.n_exc }
 
-  own : IsFlow p f.module_number f.code fine.stands.body fine.stands.offsets
+  pub own : IsFlow p f.module_number f.code fine.stands.body fine.stands.offsets
   own =
       is_flow p f.module_number f.code row.0 fine.stands.placed fine.stands.body fine.stands.offsets means row.1 (laws_are.code p f.module_number f.code row.0 means row.1) fine.stands.there fine.stands.says
 
-  meets : Holds code_of plan.assigned
+  pub meets : Holds code_of plan.assigned
   meets = subst (λ c. Holds c plan.assigned) own.flow_is own.meets
 
-  least : IsLeastOf code_of fine.stands.a
+  pub least : IsLeastOf code_of fine.stands.a
   least = laws_are.rooms (verify.flow_of fine.stands.body) fine.stands.a plan.n_state plan.n_exc fine.stands.holds fine.stands.least
 
   -- offsets and positions
@@ -217,7 +217,7 @@ module _ (laws_are : Laws) (p : Program) (s : Snapshot) (title : ℕ → ℕ →
   in_starts : (t at : ℕ) → slice_get fine.stands.offsets t ≡ Some at → position_in (p.tables.starts f.module_number f.code) at ≡ t
   in_starts t at e = ap (λ z. position_in z at) own.starts_are ∙ in_code t at e
 
-  position_is : position_in (p.tables.starts f.module_number f.code) f.at ≡ fine.stands.position
+  pub position_is : position_in (p.tables.starts f.module_number f.code) f.at ≡ fine.stands.position
   position_is = in_starts fine.stands.position f.at fine.stands.here
 
   starts_at : (t at : ℕ) → slice_get fine.stands.offsets t ≡ Some at → Starts fine.stands.offsets at

@@ -1,5 +1,5 @@
 -- The values and objects of a snapshot come back.
-use Rattle.std.proofs.Common.{◌≡◌, ℕ, zero, suc, ◌<◌, List, [], ◌∷◌, length, map, Option, Some, None, slice_get, position, refl, ap, ap₂, ◌∙◌, subst, All}
+use Rattle.std.proofs.Common.{◌≡◌, ℕ, zero, suc, ◌<◌, List, [], ◌∷◌, length, map, Option, Some, None, slice_get, position, refl, ap, ap₂, ◌∙◌, subst, arith, All}
 use Rattle.std.specs.Prelude.{unwrap_or, option_and_then}
 use Rattle.std.specs.Option.{option_map}
 use Rattle.std.specs.Str.{bytes_eq}
@@ -11,14 +11,16 @@ use Rattle.mpy_base.specs.declared.kind.Kind.{Kind}
 use Rattle.mpy_base.specs.declared.kind.Kind.TheVariants as raised
 use Rattle.mpy_base.specs.Kind.{kind_name}
 use Rattle.mpy_base.specs.World.{ObjectKind, ADict}
+use Rattle.arena_heap.specs.declared.value.ConstNo.{ConstNo}
 use Rattle.arena_heap.specs.declared.value.StrNo.TheVariants as strs
+use Rattle.arena_heap.specs.declared.value.Value.{Value}
 use Rattle.bc_library.specs.mpy_tree.Codes.{Placed, codes_of}
-use Rattle.bc_library.specs.Constants.{text_at}
+use Rattle.bc_library.specs.Constants.{numbered, text_at}
 use Rattle.bc_library.specs.Shelf.{Shelf, Named, names}
 use Rattle.vm_starting.specs.vm_states.bc_progress.py_values.Names.{builtin_name}
 use Rattle.vm_starting.specs.vm_states.bc_rows.Codes.{code_numbered}
 use Rattle.vm_starting.specs.Programs.{IsRunnable}
-use Rattle.snap_saving.specs.Shown.{name_of, module_part, value_part, pair_part, object_part}
+use Rattle.snap_saving.specs.Shown.{name_of, fixed_part, module_part, value_part, pair_part, object_part}
 use Rattle.snap_grammar.specs.declared.parts.ValuePart.{ValuePart}
 use Rattle.snap_grammar.specs.declared.parts.ValuePart.TheVariants as parts
 use Rattle.snap_grammar.specs.declared.parts.PairPart.{PairPart}
@@ -101,6 +103,10 @@ module _ (shelf : Shelf) (s : Snapshot) (is : IsLibrary shelf) (place : ℕ → 
       let o = get_there s.objects n lt in
       ap (λ z. value_part shelf place (reference z (cell_of s.objects n))) o.1 ∙ (reference_back o.0 (cell_of s.objects n) ∙ ap (λ z. parts.Object z) (in_place n lt))
 
+  with_items : (c : ConstNo) (items : List Value) → 0 < length items → fixed_part c (Some items) ≡ parts.Fixed c.«module» c.object
+  with_items c [] lt = absurd (omega (arith, lt))
+  with_items c (v ∷ vs) lt = refl
+
   pub value_back : (v : ValuePart) → IsPlain shelf s v → value_part shelf place (value_of shelf s v) ≡ v
   value_back parts.None h = refl
   value_back parts.False h = refl
@@ -108,7 +114,7 @@ module _ (shelf : Shelf) (s : Snapshot) (is : IsLibrary shelf) (place : ℕ → 
   value_back (parts.Int z) h = refl
   value_back (parts.Object n) h = object_value_back n h.there
   value_back (parts.Str text) h = ap (λ z. parts.Str (unwrap_or z [])) (str_found shelf text is.first h.0 h.1)
-  value_back (parts.Fixed m n) h = refl
+  value_back (parts.Fixed m n) h = ap (fixed_part (numbered m n)) h.are ∙ with_items (numbered m n) h.items h.some
   value_back parts.Empty h = refl
   value_back (parts.Named name) h = ap (λ z. parts.Named z) (built_back name h.builtin h.named)
 

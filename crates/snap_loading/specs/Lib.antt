@@ -10,5 +10,6 @@ pub mod Resumed
 pub mod Same
 pub mod Saved
 pub mod Shells
+pub mod Suspended
 pub mod Framing
 pub mod Texts

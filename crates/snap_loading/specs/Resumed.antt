@@ -1,11 +1,13 @@
 -- Machines in the same state, and how a run goes on in the second of them.
-use Rattle.std.specs.Prelude.{◌≡◌, ℕ, ◌+◌, List, ◌++◌}
+use Rattle.std.specs.Prelude.{◌≡◌, ℕ, ◌+◌, List, [], ◌++◌}
+use Rattle.mpy_base.specs.World.{PortState}
 use Rattle.mpy_base.specs.Val.{PlainWorld}
 use Rattle.bc_library.specs.Shelf.{Shelf}
-use Rattle.bc_machine.specs.py_effects.Ends.{End, Open, Ended, Raised, Memory, Run, report}
+use Rattle.bc_machine.specs.py_effects.Ends.{End, Open, Ended, Raised, Memory, Run, report, new_world}
+use Rattle.bc_machine.specs.Library.{Name}
 use Rattle.bc_machine.specs.State.{State}
 use Rattle.bc_machine.specs.Behind.{behind}
-use Rattle.bc_machine.specs.Machine.{steps, run_of}
+use Rattle.bc_machine.specs.Machine.{steps, start, run, run_of}
 use Rattle.vm_starting.specs.vm_states.Means.{Program}
 use Rattle.vm_starting.specs.Programs.{IsProgramOf}
 use Rattle.vm_starting.specs.declared.opening.Vm.{Vm}
@@ -39,3 +41,19 @@ abbrev pub ResumesAs : Program → (vm other : Vm) → Type 0
 ResumesAs p vm other =
     (first : State) (n m : ℕ) (w : PlainWorld) (front : List ℕ) → machine_of p vm (behind front w) ≡ steps p.library n first
     → IsRestOf front (run_of (steps p.library (n + m) first)) (run_of (steps p.library m (machine_of p other w)))
+
+-- in each program of the library the run of the module for `n` steps stands with the machine in a world that it has come to
+pub record RunsTo (shelf : Shelf) (main : Name) (cells bytes : ℕ) (ports : List PortState) (n : ℕ) (vm : Vm) : Type 0 where
+  pub stands : (p : Program) → IsProgramOf shelf p
+      → (world : PlainWorld) × (steps p.library n (start p.library main (new_world cells bytes ports)) ≡ machine_of p vm world)
+
+-- the world where nothing was printed
+abbrev pub silent : PlainWorld → PlainWorld
+silent w = record w { output = [] }
+
+-- where the run of `n` steps stands with the first machine in a world, `m` steps of the second one over that world's ports are the rest
+-- of the run of `n + m` steps
+abbrev pub GoesOnAs : Program → Name → (cells bytes : ℕ) → List PortState → ℕ → (vm other : Vm) → Type 0
+GoesOnAs p main cells bytes ports n vm other =
+    (world : PlainWorld) → steps p.library n (start p.library main (new_world cells bytes ports)) ≡ machine_of p vm world
+    → (m : ℕ) → IsRestOf world.output (run p.library main cells bytes ports (n + m)) (run_of (steps p.library m (machine_of p other (silent world))))

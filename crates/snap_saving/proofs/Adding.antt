@@ -1,16 +1,31 @@
 -- Bytes that are added one item after another.
-use Rattle.std.proofs.Common.{◌≡◌, ℕ, ◌+◌, ◌<◌, ◌≤◌, List, [], ◌∷◌, ◌++◌, length, drop, get_or, map, Option, Some, Result, Err, inl, inr, refl, sym, ap, subst, ◌∙◌, arith, append_assoc, length-append}
-use Rattle.std.specs.Prelude.{slice_get, IsSome, OnOk}
+use Rattle.std.proofs.Common.{◌≡◌, ℕ, ◌+◌, ◌<◌, ◌≤◌, List, [], ◌∷◌, ◌++◌, length, drop, get_or, map, Option, Some, None, Result, Err, inl, inr, refl, sym, ap, subst, ◌∙◌, arith, append_assoc, length-append}
+use Rattle.std.specs.Prelude.{slice_get, unwrap_or, IsSome, OnOk}
 use Rattle.std.specs.List.{flat_map}
+use Rattle.std.specs.Option.{option_map}
 use Rattle.std.proofs.lemmas.List.{drop_more, append-nil, length-map}
 use Rattle.std.proofs.lemmas.Option.{slice_get_cases, slice_get_within, get_or_from_slice_get, slice_get-get_or}
 use Rattle.std.proofs.Math.ListN.{drop_of_length-le}
 use Rattle.mpy_base.specs.declared.refused.Refused.{Refused}
 use Rattle.mpy_base.specs.declared.refused.Refused.TheVariants as refused
-use Rattle.snap_grammar.specs.Spelling.{all_of}
-use Rattle.mpy_base.specs.Vuint.{vuint}
+use Rattle.arena_heap.specs.declared.value.ConstNo.{ConstNo}
+use Rattle.arena_heap.specs.declared.value.Value.{Value}
+use Rattle.snap_grammar.specs.declared.parts.ValuePart.TheVariants as parts
+use Rattle.snap_saving.specs.Put.{all_of, number}
 use Rattle.snap_saving.specs.declared.fault.SaveFault.{SaveFault}
 use Rattle.snap_saving.specs.Saved.{FaultBy, IfFault, IsLong}
+use Rattle.snap_saving.specs.Shown.{fixed_part}
+
+-- a constant tuple without items is the empty tuple
+pub fixed_empty : (c : ConstNo) (o : Option (List Value)) → unwrap_or (option_map length o) 0 ≡ 0 → fixed_part c o ≡ parts.Empty
+fixed_empty c None e = refl
+fixed_empty c (Some []) e = refl
+fixed_empty c (Some (v ∷ vs)) e = absurd (omega (arith, e))
+
+pub fixed_some : (c : ConstNo) (o : Option (List Value)) → (unwrap_or (option_map length o) 0 ≡ 0 → ⊥) → fixed_part c o ≡ parts.Fixed c.«module» c.object
+fixed_some c None ne = absurd (ne refl)
+fixed_some c (Some []) ne = absurd (ne refl)
+fixed_some c (Some (v ∷ vs)) ne = refl
 
 -- what stands at a place and after it
 pub drop_at : {X : Type 0} (xs : List X) (i : ℕ) (x : X) → slice_get xs i ≡ Some x → drop i xs ≡ x ∷ drop (i + 1) xs
@@ -92,6 +107,6 @@ flat_map-map : {X Y : Type 0} (g : X → Y) (f : Y → List ℕ) (xs : List X) �
 flat_map-map g f [] = refl
 flat_map-map g f (x ∷ xs) = ap (λ (z : List ℕ). f (g x) ++ z) (flat_map-map g f xs)
 
-pub all_of_map : {X Y : Type 0} (g : X → Y) (f : Y → List ℕ) (xs : List X) → all_of f (map g xs) ≡ vuint (length xs) ++ flat_map (λ x. f (g x)) xs
+pub all_of_map : {X Y : Type 0} (g : X → Y) (f : Y → List ℕ) (xs : List X) → all_of f (map g xs) ≡ number (length xs) ++ flat_map (λ x. f (g x)) xs
 all_of_map g f xs =
-    ap (λ (n : ℕ). vuint n ++ flat_map f (map g xs)) (length-map xs g) ∙ ap (λ (z : List ℕ). vuint (length xs) ++ z) (flat_map-map g f xs)
+    ap (λ (n : ℕ). number n ++ flat_map f (map g xs)) (length-map xs g) ∙ ap (λ (z : List ℕ). number (length xs) ++ z) (flat_map-map g f xs)

@@ -1,5 +1,7 @@
 pub mod Adding
 mod Examples
+pub mod Fitting
+pub mod Leaves
 pub mod Naming
 pub mod OfObjects
 pub mod Places

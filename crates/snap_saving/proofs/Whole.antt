@@ -3,14 +3,15 @@ use Rattle.std.proofs.Common.{◌≡◌, ℕ, List, ◌++◌, map, reverse, sym,
 use Rattle.std.specs.List.{flat_map}
 use Rattle.std.specs.Int.{w64, to_le_bytes}
 use Rattle.std.proofs.lemmas.List.{length-reverse}
-use Rattle.mpy_base.specs.Vuint.{vuint}
 use Rattle.mpy_base.specs.World.{Heap}
 use Rattle.mpy_base.specs.Weights.{used}
 use Rattle.arena_heap.specs.declared.value.Value.{Value}
 use Rattle.bc_library.specs.Shelf.{Shelf}
 use Rattle.vm_frames.specs.Calls.{Call}
 use Rattle.prim_modules.specs.Registry.{Registry}
-use Rattle.snap_grammar.specs.Spelling as spelling
+use Rattle.snap_grammar.specs.Spelling.{header}
+use Rattle.snap_saving.specs.Put as put
+use Rattle.snap_saving.specs.Put.{number}
 use Rattle.snap_saving.specs.Shown.{entry_part, frame_part, local_part, registered_part, role_part, shown_slots, slot_part, snapshot_by, snapshot_of}
 use Rattle.snap_saving.specs.Saved.{IsLong}
 use Rattle.snap_saving.specs.Steps.{ArePlaces, call_bytes, calls_bytes, entries_bytes, found, head_bytes, heap_bytes, locals_bytes, registry_bytes, running_bytes, slots_bytes}
@@ -29,26 +30,26 @@ module _ (shelf : Shelf) (place : ℕ → ℕ) where
   pub call_is : (c : Call) → call_bytes shelf place c
       ≡ running_bytes place c ++ (locals_bytes shelf place c.locals ++ (slots_bytes shelf place (reverse c.slots) ++ entries_bytes place c.at (reverse c.entries)))
   call_is c =
-      let F = λ (l s e : List ℕ). vuint c.module_number ++ (vuint c.code ++ (vuint c.at ++ (vuint (place c.names.cell) ++ (spelling.role (role_part place c.role) ++ (l ++ (s ++ e)))))) in
-      let S = spelling.all_of spelling.slot (map (slot_part shelf place) (shown_slots (reverse c.slots))) in
-      let E = spelling.all_of spelling.entry (map (entry_part place c.at) (reverse c.entries)) in
-      ap (λ (l : List ℕ). F l S E) (all_of_map (local_part shelf place) spelling.slot c.locals)
-      ∙ (ap (λ (s : List ℕ). F (locals_bytes shelf place c.locals) s E) (all_of_map (slot_part shelf place) spelling.slot (shown_slots (reverse c.slots)))
-      ∙ (ap (λ (e : List ℕ). F (locals_bytes shelf place c.locals) (slots_bytes shelf place (reverse c.slots)) e) (all_of_map (entry_part place c.at) spelling.entry (reverse c.entries))
-      ∙ frame_joined (vuint c.module_number) (vuint c.code) (vuint c.at) (vuint (place c.names.cell)) (spelling.role (role_part place c.role)) (locals_bytes shelf place c.locals) (slots_bytes shelf place (reverse c.slots)) (entries_bytes place c.at (reverse c.entries))))
+      let F = λ (l s e : List ℕ). number c.module_number ++ (number c.code ++ (number c.at ++ (number (place c.names.cell) ++ (put.role (role_part place c.role) ++ (l ++ (s ++ e)))))) in
+      let S = put.all_of put.slot (map (slot_part shelf place) (shown_slots (reverse c.slots))) in
+      let E = put.all_of put.entry (map (entry_part place c.at) (reverse c.entries)) in
+      ap (λ (l : List ℕ). F l S E) (all_of_map (local_part shelf place) put.slot c.locals)
+      ∙ (ap (λ (s : List ℕ). F (locals_bytes shelf place c.locals) s E) (all_of_map (slot_part shelf place) put.slot (shown_slots (reverse c.slots)))
+      ∙ (ap (λ (e : List ℕ). F (locals_bytes shelf place c.locals) (slots_bytes shelf place (reverse c.slots)) e) (all_of_map (entry_part place c.at) put.entry (reverse c.entries))
+      ∙ frame_joined (number c.module_number) (number c.code) (number c.at) (number (place c.names.cell)) (put.role (role_part place c.role)) (locals_bytes shelf place c.locals) (slots_bytes shelf place (reverse c.slots)) (entries_bytes place c.at (reverse c.entries))))
 
   -- a state from its parts
-  pub state_is : (heap : Heap Value ℕ) (modules : Registry) (calls : List Call) (paid : ℕ) → spelling.spelling (snapshot_by shelf place heap modules calls paid)
+  pub state_is : (heap : Heap Value ℕ) (modules : Registry) (calls : List Call) (paid : ℕ) → put.whole (snapshot_by shelf place heap modules calls paid)
       ≡ head_bytes heap paid ++ (heap_bytes shelf place heap ++ (registry_bytes place modules ++ calls_bytes shelf place calls))
   state_is heap modules calls paid =
-      let F = λ (o m f : List ℕ). spelling.header ++ (vuint heap.cell_size ++ (vuint heap.byte_size ++ (vuint (used heap) ++ (vuint heap.bytes ++ (to_le_bytes w64 paid ++ (o ++ (m ++ f))))))) in
-      let M = spelling.all_of vuint (map (registered_part place) modules.entries) in
-      let C = spelling.all_of spelling.frame (map (frame_part shelf place) (reverse calls)) in
+      let F = λ (o m f : List ℕ). header ++ (number heap.cell_size ++ (number heap.byte_size ++ (number (used heap) ++ (number heap.bytes ++ (to_le_bytes w64 paid ++ (o ++ (m ++ f))))))) in
+      let M = put.all_of number (map (registered_part place) modules.entries) in
+      let C = put.all_of put.frame (map (frame_part shelf place) (reverse calls)) in
       ap (λ (o : List ℕ). F o M C) (objects_bytes shelf place heap.objects)
-      ∙ (ap (λ (m : List ℕ). F (heap_bytes shelf place heap) m C) (all_of_map (registered_part place) vuint modules.entries)
-      ∙ (ap (λ (f : List ℕ). F (heap_bytes shelf place heap) (registry_bytes place modules) f) (all_of_map (frame_part shelf place) spelling.frame (reverse calls))
-      ∙ (ap (λ (n : ℕ). F (heap_bytes shelf place heap) (registry_bytes place modules) (vuint n ++ flat_map (call_bytes shelf place) (reverse calls))) (length-reverse calls)
-      ∙ state_joined spelling.header (vuint heap.cell_size) (vuint heap.byte_size) (vuint (used heap)) (vuint heap.bytes) (to_le_bytes w64 paid) (heap_bytes shelf place heap) (registry_bytes place modules) (calls_bytes shelf place calls))))
+      ∙ (ap (λ (m : List ℕ). F (heap_bytes shelf place heap) m C) (all_of_map (registered_part place) number modules.entries)
+      ∙ (ap (λ (f : List ℕ). F (heap_bytes shelf place heap) (registry_bytes place modules) f) (all_of_map (frame_part shelf place) put.frame (reverse calls))
+      ∙ (ap (λ (n : ℕ). F (heap_bytes shelf place heap) (registry_bytes place modules) (number n ++ flat_map (call_bytes shelf place) (reverse calls))) (length-reverse calls)
+      ∙ state_joined header (number heap.cell_size) (number heap.byte_size) (number (used heap)) (number heap.bytes) (to_le_bytes w64 paid) (heap_bytes shelf place heap) (registry_bytes place modules) (calls_bytes shelf place calls))))
 
   -- the parts of a frame, added one after another
   pub frame_added : (c : Call) (old one two three new : List ℕ) → one ≡ old ++ running_bytes place c → two ≡ one ++ locals_bytes shelf place c.locals → three ≡ two ++ slots_bytes shelf place (reverse c.slots)
@@ -77,7 +78,7 @@ module _ (shelf : Shelf) (place : ℕ → ℕ) where
 
   -- the parts of a state, added one after another
   pub state_added : (heap : Heap Value ℕ) (modules : Registry) (calls : List Call) (paid : ℕ) (old one two three : List ℕ) → one ≡ old ++ head_bytes heap paid → two ≡ one ++ heap_bytes shelf place heap
-      → three ≡ two ++ registry_bytes place modules → three ++ calls_bytes shelf place calls ≡ old ++ spelling.spelling (snapshot_by shelf place heap modules calls paid)
+      → three ≡ two ++ registry_bytes place modules → three ++ calls_bytes shelf place calls ≡ old ++ put.whole (snapshot_by shelf place heap modules calls paid)
   state_added heap modules calls paid old one two three e1 e2 e3 =
       let h = heap_bytes shelf place heap in
       let m = registry_bytes place modules in
@@ -86,7 +87,7 @@ module _ (shelf : Shelf) (place : ℕ → ℕ) where
       ∙ (joined3 old (head_bytes heap paid) h m f ∙ ap (λ (z : List ℕ). old ++ z) (sym (state_is heap modules calls paid)))
 
   pub heap_long : (heap : Heap Value ℕ) (modules : Registry) (calls : List Call) (paid : ℕ) (old one : List ℕ) → one ≡ old ++ head_bytes heap paid → IsLong (one ++ heap_bytes shelf place heap)
-      → IsLong (old ++ spelling.spelling (snapshot_by shelf place heap modules calls paid))
+      → IsLong (old ++ put.whole (snapshot_by shelf place heap modules calls paid))
   heap_long heap modules calls paid old one e long =
       let h = heap_bytes shelf place heap in
       let rest = registry_bytes place modules ++ calls_bytes shelf place calls in
@@ -94,5 +95,5 @@ module _ (shelf : Shelf) (place : ℕ → ℕ) where
 
   -- where the places are found in a list
   pub placed : (heap : Heap Value ℕ) (modules : Registry) (calls : List Call) (paid : ℕ) (places : List ℕ) → ArePlaces heap places → (old : List ℕ)
-      → old ++ spelling.spelling (snapshot_by shelf (found places) heap modules calls paid) ≡ old ++ spelling.spelling (snapshot_of shelf heap modules calls paid)
-  placed heap modules calls paid places are old = ap (λ (by : ℕ → ℕ). old ++ spelling.spelling (snapshot_by shelf by heap modules calls paid)) (found_is heap places are)
+      → old ++ put.whole (snapshot_by shelf (found places) heap modules calls paid) ≡ old ++ put.whole (snapshot_of shelf heap modules calls paid)
+  placed heap modules calls paid places are old = ap (λ (by : ℕ → ℕ). old ++ put.whole (snapshot_by shelf by heap modules calls paid)) (found_is heap places are)

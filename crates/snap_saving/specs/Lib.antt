@@ -1,3 +1,4 @@
+pub mod Put
 pub mod Saved
 pub mod Shown
 pub mod Steps

@@ -13,10 +13,11 @@ use Rattle.prim_walks.specs.py_values.Names.{builtin_name}
 use Rattle.arena_heap.specs.declared.value.Value.{Value}
 use Rattle.arena_heap.specs.declared.value.Value.TheVariants as values
 use Rattle.arena_heap.specs.declared.value.StrNo.TheVariants as strs
+use Rattle.arena_heap.specs.declared.value.ConstNo.{ConstNo}
 use Rattle.arena_heap.specs.declared.value.ExcNo.{ExcNo}
 use Rattle.arena_heap.specs.Values.{ArenaObject}
 use Rattle.bc_library.specs.Shelf.{Shelf, names}
-use Rattle.bc_library.specs.Constants.{text_at}
+use Rattle.bc_library.specs.Constants.{items_at, text_at}
 use Rattle.vm_frames.specs.declared.slot.Slot.{Slot}
 use Rattle.vm_frames.specs.declared.slot.Slot.TheVariants as stacked
 use Rattle.vm_frames.specs.declared.slot.Entry.{Entry}
@@ -72,6 +73,11 @@ abbrev pub bool_part : Bool → ValuePart
 bool_part true = parts.True
 bool_part false = parts.False
 
+-- a constant tuple of these items: one without items is the empty tuple
+abbrev pub fixed_part : ConstNo → Option (List Value) → ValuePart
+fixed_part c (Some (item ∷ items)) = parts.Fixed c.«module» c.object
+fixed_part c _ = parts.Empty
+
 -- numbers of objects, where they have these places
 module _ (place : ℕ → ℕ) where
   -- the dict of a module's names
@@ -105,7 +111,7 @@ module _ (shelf : Shelf) (place : ℕ → ℕ) where
   value_part (values.Bool b) = bool_part b
   value_part (values.Int z) = parts.Int z
   value_part (values.Str s) = parts.Str (unwrap_or (text_at shelf s) [])
-  value_part (values.Fixed c) = parts.Fixed c.«module» c.object
+  value_part (values.Fixed c) = fixed_part c (items_at shelf c)
   value_part values.Empty = parts.Empty
   value_part (values.Built b) = parts.Named (builtin_name b)
   value_part (values.List l) = parts.Object (place l.cell)

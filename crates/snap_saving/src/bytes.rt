@@ -1,20 +1,22 @@
 //! Numbers and texts of a snapshot, and how many bytes it may have.
 
-ghost use Rattle.std.specs.Prelude.{◌≡◌, ◌<◌, ◌≤◌, ◌^◌, ◌∷◌, ◌++◌, [], length, OnOk};
+ghost use Rattle.std.specs.Prelude.{◌≡◌, ◌+◌, ◌<◌, ◌≤◌, ◌^◌, ◌∷◌, ◌++◌, [], length, OnOk};
 ghost use Rattle.std.specs.Bool.{OnTrue, OnFalse};
-ghost use Rattle.mpy_base.specs.Vuint.{vuint};
-ghost use Rattle.bc_ops.specs.Signed.{signed};
-ghost use Rattle.snap_grammar.specs.Spelling.{text};
+ghost use Rattle.bc_ops.specs.Signed.{IsSmall};
+ghost use Rattle.snap_saving.specs.Put.{integer, left, number, overlong, text, zeros};
 ghost use Rattle.snap_saving.specs.Saved.{IsLong};
 
 use bc_ops::write_signed;
-use mpy_base::NoMemory;
+use mpy_base::{NoMemory, write_vuint};
 
 /// As many bytes as a snapshot may have.
 const MOST_BYTES: usize = 4_194_304;
 
-/// A number of 32 bits has five groups of seven bits at most.
-const MAX_GROUPS: usize = 5;
+/// The least small number.
+const LEAST: i32 = -1_073_741_824;
+
+/// The greatest small number.
+const GREATEST: i32 = 1_073_741_823;
 
 /// One byte.
 pub(crate) fn put_byte(out: &mut Vec<u8>, byte: u8) -> Result<(), NoMemory>
@@ -24,29 +26,78 @@ pub(crate) fn put_byte(out: &mut Vec<u8>, byte: u8) -> Result<(), NoMemory>
     Ok(())
 }
 
-/// A number, in as few groups as it takes.
-pub(crate) fn put_number(out: &mut Vec<u8>, n: u32) -> Result<(), NoMemory>
-    ensures { OnOk result (out.new.items ≡ out.old.items ++ vuint n) }
+/// So many zero bytes.
+#[tactic(auto, unfolding(crate::specs::Put::zeros))]
+fn put_zeros(out: &mut Vec<u8>, count: usize) -> Result<(), NoMemory>
+    requires { count ≤ 2 ^ 32 }
+    ensures { OnOk result (out.new.items ≡ out.old.items ++ zeros count) }
 {
-    let mut groups = [0u8; MAX_GROUPS];
-    let mut first = MAX_GROUPS - 1;
-    groups[first] = (n % 128) as u8;
-    let mut high = n / 128;
-    while high > 0 {
-        first -= 1;
-        groups[first] = 128 + (high % 128) as u8;
-        high /= 128;
-    }
-    out.extend_from_slice(&groups[first..])?;
+    let len = out.len();
+    out.resize(len + count, 0)?;
     Ok(())
+}
+
+/// What has no spelling: more bytes than a snapshot may have.
+#[tactic(auto, unfolding(crate::specs::Put::overlong))]
+fn put_overlong(out: &mut Vec<u8>) -> Result<(), NoMemory>
+    ensures { OnOk result (out.new.items ≡ out.old.items ++ overlong) }
+{
+    put_zeros(out, MOST_BYTES + 1)
+}
+
+/// A number, in as few groups as it takes: from 2^31 on it has no spelling.
+#[tactic(auto, using(crate::proofs::Leaves::small_number, crate::proofs::Leaves::no_number))]
+pub(crate) fn put_number(out: &mut Vec<u8>, n: u32) -> Result<(), NoMemory>
+    ensures { OnOk result (out.new.items ≡ out.old.items ++ number n) }
+{
+    if n < 1 << 31 {
+        write_vuint(out, n)
+    } else {
+        put_overlong(out)
+    }
+}
+
+/// Whether a number is one from -2^30 to 2^30 - 1.
+fn is_small(z: i32) -> bool
+    ensures yes { OnTrue result (IsSmall z) }
+    ensures no { OnFalse result (IsSmall z → ⊥) }
+{
+    if z < LEAST || z > GREATEST {
+        return false;
+    }
+    true
+}
+
+/// A signed number: only a small one has a spelling.
+#[tactic(auto, using(crate::proofs::Leaves::small_integer, crate::proofs::Leaves::no_integer))]
+pub(crate) fn put_integer(out: &mut Vec<u8>, z: i32) -> Result<(), NoMemory>
+    ensures { OnOk result (out.new.items ≡ out.old.items ++ integer z) }
+{
+    if is_small(z) {
+        write_signed(out, z)
+    } else {
+        put_overlong(out)
+    }
 }
 
 /// A tag, and a signed number.
 pub(crate) fn put_tagged(out: &mut Vec<u8>, tag: u8, z: i32) -> Result<(), NoMemory>
-    ensures { OnOk result (out.new.items ≡ out.old.items ++ (tag ∷ signed z)) }
+    ensures { OnOk result (out.new.items ≡ out.old.items ++ (tag ∷ integer z)) }
 {
     out.push(tag)?;
-    write_signed(out, z)
+    put_integer(out, z)
+}
+
+/// How many slots of an iterator are left, whose topmost is this one, counted from 0: no more than three have a spelling.
+#[tactic(auto, using(crate::proofs::Leaves::few_left, crate::proofs::Leaves::many_left))]
+pub(crate) fn put_left(out: &mut Vec<u8>, part: u8) -> Result<(), NoMemory>
+    ensures { OnOk result (out.new.items ≡ out.old.items ++ left (part + 1)) }
+{
+    if part < 3 {
+        write_vuint(out, part as u32 + 1)
+    } else {
+        put_overlong(out)
+    }
 }
 
 /// A length, and as many bytes.

@@ -2,14 +2,14 @@
 
 ghost use Rattle.std.specs.Prelude.{◌≡◌, ◌+◌, ◌<◌, ◌≤◌, ◌^◌, ◌∷◌, ◌++◌, length, option_map, reverse, slice_get, Some, if◌then◌else◌, OnOk};
 ghost use Rattle.std.specs.List.{flat_map};
-ghost use Rattle.mpy_base.specs.Vuint.{vuint};
-ghost use Rattle.snap_grammar.specs.Spelling.{if_kept, mark, role as role_spelling, slot as slot_spelling, takes_iterator};
+ghost use Rattle.snap_grammar.specs.Spelling.{mark, takes_iterator};
+ghost use Rattle.snap_saving.specs.Put.{if_kept, number, role as role_as_put, slot as slot_as_put};
 ghost use Rattle.snap_saving.specs.Saved.{IfFault, IsLong};
 ghost use Rattle.snap_saving.specs.Shown.{goes_on as goes_on_in, is_shown as is_shown_in, iterator_part, kept_part, role_part, shown_slots};
 ghost use Rattle.snap_saving.specs.Steps.{call_bytes, entries_bytes, entry_bytes, found, local_bytes, locals_bytes};
 ghost use Rattle.snap_saving.specs.Steps.{running_bytes, shown_bytes, slot_bytes, slots_bytes, value_bytes};
 
-use crate::bytes::{is_long, put_byte, put_number};
+use crate::bytes::{is_long, put_byte, put_left, put_number};
 use crate::fault::SaveFault;
 use crate::values::{place, put_value};
 use arena_heap::{ExcNo, Value};
@@ -118,7 +118,7 @@ fn put_over(
     over: Value,
     at: u32,
 ) -> Result<(), NoMemory>
-    ensures { OnOk result (out.new.items ≡ out.old.items ++ (value_bytes library.now (found places.now) over ++ vuint at)) }
+    ensures { OnOk result (out.new.items ≡ out.old.items ++ (value_bytes library.now (found places.now) over ++ number at)) }
 {
     put_value(out, library, places, over)?;
     put_number(out, at)?;
@@ -134,14 +134,14 @@ fn put_iterator(
     at: u32,
     part: u8,
 ) -> Result<(), NoMemory>
-    ensures { OnOk result (out.new.items ≡ out.old.items ++ slot_spelling (iterator_part library.now (found places.now) over at part)) }
+    ensures { OnOk result (out.new.items ≡ out.old.items ++ slot_as_put (iterator_part library.now (found places.now) over at part)) }
 {
     if part == 3 {
         out.push(10)?;
         put_over(out, library, places, over, at)?;
     } else {
         out.push(11)?;
-        put_number(out, part as u32 + 1)?;
+        put_left(out, part)?;
         put_over(out, library, places, over, at)?;
     }
     Ok(())
@@ -159,7 +159,7 @@ fn put_taking(out: &mut Vec<u8>, iterator: bool) -> Result<(), NoMemory>
 
 /// A jump that a finally keeps.
 fn put_jump(out: &mut Vec<u8>, target: u32, entries: u8, iterator: bool) -> Result<(), NoMemory>
-    ensures { OnOk result (out.new.items ≡ out.old.items ++ (14 ∷ (vuint target ++ (vuint entries ++ takes_iterator iterator)))) }
+    ensures { OnOk result (out.new.items ≡ out.old.items ++ (14 ∷ (number target ++ (number entries ++ takes_iterator iterator)))) }
 {
     out.push(14)?;
     put_number(out, target)?;
@@ -293,7 +293,7 @@ fn put_entries(
 
 /// What the end of a frame does.
 fn put_role(out: &mut Vec<u8>, places: &[u32], role: Role) -> Result<(), NoMemory>
-    ensures { OnOk result (out.new.items ≡ out.old.items ++ role_spelling (role_part (found places.now) role)) }
+    ensures { OnOk result (out.new.items ≡ out.old.items ++ role_as_put (role_part (found places.now) role)) }
 {
     match role {
         Role::Main => put_byte(out, 0),

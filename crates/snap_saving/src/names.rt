@@ -3,7 +3,7 @@
 ghost use Rattle.std.specs.Prelude.{◌≡◌, ◌<◌, ◌^◌, [], ◌++◌, length, unwrap_or, OnOk};
 ghost use Rattle.prim_walks.specs.py_values.Names.{builtin_name as name_of_builtin};
 ghost use Rattle.bc_library.specs.Constants.{text_at};
-ghost use Rattle.snap_grammar.specs.Spelling.{text};
+ghost use Rattle.snap_saving.specs.Put.{text};
 ghost use Rattle.snap_saving.specs.Shown.{module_part};
 ghost use Rattle.snap_saving.specs.Steps.{number_in};
 

@@ -2,18 +2,16 @@
 
 ghost use Rattle.std.specs.Prelude.{◌≡◌, ◌<◌, ◌∷◌, ◌++◌, option_map, Some, OnOk};
 ghost use Rattle.std.specs.List.{flat_map};
-ghost use Rattle.mpy_base.specs.Vuint.{vuint};
 ghost use Rattle.mpy_base.specs.Weights.{used};
 ghost use Rattle.mpy_base.specs.World.{AList, ADict, ATuple, AText, FunctionObject, ExceptionObject, MethodObject, RangeObject};
 ghost use Rattle.mpy_base.specs.World.{ModuleObject, IsA, items_at, pairs_at, text_at};
 ghost use Rattle.arena_heap.specs.Values.{BeginsAt};
-ghost use Rattle.bc_ops.specs.Signed.{signed};
-ghost use Rattle.snap_grammar.specs.Spelling.{text};
+ghost use Rattle.snap_saving.specs.Put.{integer, number, text};
 ghost use Rattle.snap_saving.specs.Saved.{IfFault, IsLong};
 ghost use Rattle.snap_saving.specs.Shown.{name_of};
 ghost use Rattle.snap_saving.specs.Steps.{bytes_at, found, object_bytes, pair_bytes, value_bytes};
 
-use crate::bytes::{is_long, put_number, put_tagged, put_text};
+use crate::bytes::{is_long, put_integer, put_number, put_tagged, put_text};
 use crate::fault::SaveFault;
 use crate::names::{module_of, put_builtin, text_of};
 use crate::values::{place, put_pair, put_value};
@@ -23,7 +21,6 @@ use arena_heap::{
     module_parts, object_at, range_parts, tuple_at, tuple_len,
 };
 use bc_library::Library;
-use bc_ops::write_signed;
 use mpy_base::{Builtin, Kind, NoMemory, Refused};
 
 /// The items of a list.
@@ -94,7 +91,7 @@ fn put_pairs(
 
 /// The tag, the room and the count of a list or dict.
 fn put_sized(out: &mut Vec<u8>, tag: u8, room: u32, count: u32) -> Result<(), NoMemory>
-    ensures { OnOk result (out.new.items ≡ out.old.items ++ (tag ∷ (vuint room ++ vuint count))) }
+    ensures { OnOk result (out.new.items ≡ out.old.items ++ (tag ∷ (number room ++ number count))) }
 {
     out.push(tag)?;
     put_number(out, room)?;
@@ -104,7 +101,7 @@ fn put_sized(out: &mut Vec<u8>, tag: u8, room: u32, count: u32) -> Result<(), No
 
 /// The tag and the count of a tuple.
 fn put_counted(out: &mut Vec<u8>, tag: u8, count: u32) -> Result<(), NoMemory>
-    ensures { OnOk result (out.new.items ≡ out.old.items ++ (tag ∷ vuint count)) }
+    ensures { OnOk result (out.new.items ≡ out.old.items ++ (tag ∷ number count)) }
 {
     out.push(tag)?;
     put_number(out, count)?;
@@ -195,7 +192,7 @@ fn put_place(
     line: u32,
     name: u32,
 ) -> Result<(), NoMemory>
-    ensures { OnOk result (out.new.items ≡ out.old.items ++ (text (name_of library.now file) ++ (vuint line ++ text (name_of library.now name)))) }
+    ensures { OnOk result (out.new.items ≡ out.old.items ++ (text (name_of library.now file) ++ (number line ++ text (name_of library.now name)))) }
 {
     put_text(out, text_of(library, StrNo::Pool(file)))?;
     put_number(out, line)?;
@@ -238,11 +235,11 @@ fn put_method(
 
 /// A range, by its start, its stop and its step.
 fn put_range(out: &mut Vec<u8>, parts: (i32, i32, i32)) -> Result<(), NoMemory>
-    ensures { OnOk result (out.new.items ≡ out.old.items ++ (8 ∷ (signed parts.0 ++ (signed parts.1 ++ signed parts.2)))) }
+    ensures { OnOk result (out.new.items ≡ out.old.items ++ (8 ∷ (integer parts.0 ++ (integer parts.1 ++ integer parts.2)))) }
 {
     put_tagged(out, 8, parts.0)?;
-    write_signed(out, parts.1)?;
-    write_signed(out, parts.2)?;
+    put_integer(out, parts.1)?;
+    put_integer(out, parts.2)?;
     Ok(())
 }
 

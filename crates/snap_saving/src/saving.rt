@@ -3,8 +3,9 @@
 ghost use Rattle.std.specs.Prelude.{◌≡◌, ◌<◌, ◌≤◌, ◌^◌, ◌++◌, length, IfOk, OnOk};
 ghost use Rattle.std.specs.Bool.{OnTrue, OnFalse};
 ghost use Rattle.std.specs.List.{flat_map};
-ghost use Rattle.mpy_base.specs.Vuint.{vuint};
-ghost use Rattle.snap_grammar.specs.Spelling.{spelling};
+ghost use Rattle.mpy_base.specs.declared.limits.TheConstants.{MAX_CALLS as LIMIT};
+ghost use Rattle.snap_grammar.specs.Spelling.{Fits};
+ghost use Rattle.snap_saving.specs.Put.{whole};
 ghost use Rattle.snap_saving.specs.Saved.{IfFault, IsLong, IsTooBig};
 ghost use Rattle.snap_saving.specs.Shown.{IsSnapshotOf, snapshot_of};
 ghost use Rattle.snap_saving.specs.Steps.{ArePlaces, calls_bytes, found, head_bytes, heap_bytes, registered_bytes, registry_bytes};
@@ -16,6 +17,7 @@ use crate::objects::put_objects;
 use crate::values::{place, places_of};
 use arena_heap::Arena;
 use bc_library::Library;
+use mpy_base::limits::MAX_CALLS;
 use mpy_base::{NoMemory, Refused};
 use prim_modules::{Entry, Modules};
 use std::alloc::Global;
@@ -99,8 +101,8 @@ fn put_state(
     paid: u64,
 ) -> Result<(), Refused<SaveFault>>
     requires { ArePlaces arena.now places.now }
-    ensures ok { OnOk result (out.new.items ≡ out.old.items ++ spelling (snapshot_of library.now arena.now modules.now frames.now.calls paid)) }
-    ensures fault { IfFault result (IsLong (out.old.items ++ spelling (snapshot_of library.now arena.now modules.now frames.now.calls paid))) }
+    ensures ok { OnOk result (out.new.items ≡ out.old.items ++ whole (snapshot_of library.now arena.now modules.now frames.now.calls paid)) }
+    ensures fault { IfFault result (IsLong (out.old.items ++ whole (snapshot_of library.now arena.now modules.now frames.now.calls paid))) }
 {
     put_head(out, arena, paid)?;
     put_heap(out, library, arena, places)?;
@@ -116,6 +118,14 @@ fn are_many(paid: u64) -> bool
     paid >= MANY_STEPS
 }
 
+/// Whether there are more frames than a run may have.
+fn is_deep(frames: &Frames) -> bool
+    ensures yes { OnTrue result (LIMIT < length frames.now.calls) }
+    ensures no { OnFalse result (length frames.now.calls ≤ LIMIT) }
+{
+    frames.depth() as usize > MAX_CALLS
+}
+
 /// The snapshot of a state of the library: of its arena, its registered modules, its calls, and the steps that are paid on the running
 /// instruction.
 pub fn save(
@@ -128,12 +138,19 @@ pub fn save(
 ) -> Result<Vec<u8>, Refused<SaveFault>>
     ensures saved { IfOk result (λ bytes. IsSnapshotOf library.now arena.now modules.now frames.now.calls paid bytes.items) }
 
+    // It is one that is read again.
+    ensures fits { OnOk result (Fits (snapshot_of library.now arena.now modules.now frames.now.calls paid)) }
+
     // A fault comes exactly where the state has no snapshot.
     ensures few_bytes { IfOk result (λ bytes. length bytes.items ≤ 4194304) }
     ensures few_steps { OnOk result (paid < 2 ^ 63) }
+    ensures few_calls { OnOk result (length frames.now.calls ≤ LIMIT) }
     ensures fault { IfFault result (IsTooBig library.now arena.now modules.now frames.now.calls paid) }
 {
     if are_many(paid) {
+        return Err(Refused::Fault(SaveFault::TooBig));
+    }
+    if is_deep(frames) {
         return Err(Refused::Fault(SaveFault::TooBig));
     }
     let places = places_of(alloc, arena)?;

@@ -1,18 +1,18 @@
 //! Values of a snapshot.
 
-ghost use Rattle.std.specs.Prelude.{◌≡◌, ◌<◌, ◌≤◌, ◌∷◌, [], ◌++◌, is_some, slice_index, unwrap_or, if◌then◌else◌, OnOk, IfOk};
-ghost use Rattle.mpy_base.specs.Vuint.{vuint};
+ghost use Rattle.std.specs.Prelude.{◌≡◌, ◌<◌, ◌≤◌, ◌∷◌, [], ◌++◌, length, is_some, slice_index, unwrap_or, if◌then◌else◌, OnOk, IfOk};
+ghost use Rattle.std.specs.Option.{option_map};
 ghost use Rattle.mpy_base.specs.Weights.{used};
 ghost use Rattle.mpy_base.specs.World.{object};
 ghost use Rattle.prim_walks.specs.py_values.Names.{builtin_name as name_of_builtin};
-ghost use Rattle.bc_library.specs.Constants.{text_at};
-ghost use Rattle.snap_grammar.specs.Spelling.{text, value as value_spelling};
-ghost use Rattle.snap_saving.specs.Shown.{bool_part};
+ghost use Rattle.bc_library.specs.Constants.{items_at, text_at};
+ghost use Rattle.snap_saving.specs.Put.{number, text, value};
+ghost use Rattle.snap_saving.specs.Shown.{bool_part, fixed_part};
 ghost use Rattle.snap_saving.specs.Steps.{ArePlaces, found, pair_bytes, value_bytes};
 
 use crate::bytes::{put_byte, put_number, put_tagged, put_text};
 use crate::names::{put_builtin, text_of};
-use arena_heap::{Arena, ConstNo, StrNo, Value, object_at};
+use arena_heap::{Arena, ConstNo, Constants, StrNo, Value, object_at};
 use bc_library::Library;
 use mpy_base::{Builtin, NoMemory};
 use std::alloc::Global;
@@ -62,7 +62,7 @@ pub(crate) fn place(places: &[u32], cell: u32) -> u32
 
 /// A bool.
 fn put_bool(out: &mut Vec<u8>, b: bool) -> Result<(), NoMemory>
-    ensures { OnOk result (out.new.items ≡ out.old.items ++ value_spelling (bool_part b)) }
+    ensures { OnOk result (out.new.items ≡ out.old.items ++ value (bool_part b)) }
 {
     match b {
         true => put_byte(out, 2),
@@ -72,7 +72,7 @@ fn put_bool(out: &mut Vec<u8>, b: bool) -> Result<(), NoMemory>
 
 /// The value that is an object.
 fn put_reference(out: &mut Vec<u8>, places: &[u32], cell: u32) -> Result<(), NoMemory>
-    ensures { OnOk result (out.new.items ≡ out.old.items ++ (4 ∷ vuint (found places.now cell))) }
+    ensures { OnOk result (out.new.items ≡ out.old.items ++ (4 ∷ number (found places.now cell))) }
 {
     out.push(4)?;
     put_number(out, place(places, cell))?;
@@ -88,9 +88,28 @@ fn put_str(out: &mut Vec<u8>, library: &Library, s: StrNo) -> Result<(), NoMemor
     Ok(())
 }
 
+/// How many items a constant tuple has, 0 where it is none.
+fn item_count(library: &Library, c: ConstNo) -> u32
+    ensures { result ≡ unwrap_or (option_map length (items_at library.now c)) 0 }
+{
+    library.len(c).unwrap_or(0)
+}
+
 /// The value that is a constant tuple.
-fn put_fixed(out: &mut Vec<u8>, c: ConstNo) -> Result<(), NoMemory>
-    ensures { OnOk result (out.new.items ≡ out.old.items ++ (6 ∷ (vuint c.«module» ++ vuint c.object))) }
+#[tactic(auto, using(crate::proofs::Adding::fixed_empty, crate::proofs::Adding::fixed_some))]
+fn put_fixed(out: &mut Vec<u8>, library: &Library, c: ConstNo) -> Result<(), NoMemory>
+    ensures { OnOk result (out.new.items ≡ out.old.items ++ value (fixed_part c (items_at library.now c))) }
+{
+    if item_count(library, c) == 0 {
+        put_byte(out, 7)
+    } else {
+        put_constant(out, c)
+    }
+}
+
+/// The value that is a constant tuple that has items.
+fn put_constant(out: &mut Vec<u8>, c: ConstNo) -> Result<(), NoMemory>
+    ensures { OnOk result (out.new.items ≡ out.old.items ++ (6 ∷ (number c.«module» ++ number c.object))) }
 {
     out.push(6)?;
     put_number(out, c.module)?;
@@ -121,7 +140,7 @@ pub(crate) fn put_value(
         Value::Bool(b) => put_bool(out, b),
         Value::Int(z) => put_tagged(out, 3, z),
         Value::Str(s) => put_str(out, library, s),
-        Value::Fixed(c) => put_fixed(out, c),
+        Value::Fixed(c) => put_fixed(out, library, c),
         Value::Empty => put_byte(out, 7),
         Value::List(l) => put_reference(out, places, l.cell),
         Value::Dict(d) => put_reference(out, places, d.cell),

@@ -44,7 +44,7 @@ returns-in-Ok-flush-clause-leaves g c =
     let new = sight g.S.Sink.told g.P.Port.seen c.flush.new.self c.run.new.ports in
     leaves c.run.new.vm c.say_end-end.result c.unended.result (λ (left : Vm). StandsOn shelf c.args.vm c.args.steps old new left) c.say_end-end.ensures.end c.unended.ensures
     (stands_in_all g.S.Sink.told shelf c.args.steps c.args.vm
-    (record { out = c.args.out.now; ports = map g.P.Port.seen c.args.ports.now }) (record { out = c.run.new.out; ports = map g.P.Port.seen c.run.new.ports }) c.run.new.vm c.in-Ok-run.ensures.runs (g.S.Sink.told c.flush.new.self) c.flush.ensures.same)
+    (record { out = c.args.out.now; ports = map g.P.Port.seen c.args.ports.now }) (record { out = c.run.new.out; ports = map g.P.Port.seen c.run.new.ports }) c.run.new.vm c.in-Ok-run.ensures.runs (g.S.Sink.told c.flush.new.self) c.flush.ensures.same c.run.ensures.vm)
 
 pub returns-in-Err-flush-clause-runs : goal.returns-in-Err-flush-clause-runs
 returns-in-Err-flush-clause-runs g c = (

@@ -1,7 +1,7 @@
 use Rattle.std.proofs.Common.{refl}
 use Rattle.mpy_endings.proofs.Statuses.{not_two, two_unsaved}
 use Rattle.mpy_tool.specs.Call.{call_of}
-use Rattle.mpy_tool.proofs.Acting.{go_ordered, check_ordered, check_as_ordered, dump_ordered, cross_ordered, merge_ordered, freeze_ordered, migrate_ordered, run_ordered, resume_ordered, board_ordered, stress_ordered, go_means_ordered, run_means_ordered, stress_means_ordered}
+use Rattle.mpy_tool.proofs.Acting.{go_ordered, check_ordered, check_as_ordered, dump_ordered, cross_ordered, merge_ordered, freeze_ordered, migrate_ordered, run_ordered, resume_ordered, board_ordered, stress_ordered, go_means_ordered, run_means_ordered, stress_means_ordered, suspends_ordered, resume_means_ordered}
 use Rattle.mpy_tool.proofs.Counting.{obeys_stay}
 use Rattle.mpy_tool.proofs.top.mpy.Goals as goal
 
@@ -74,6 +74,16 @@ pub returns-in-Ok-clause-run_means : goal.returns-in-Ok-clause-run_means
 returns-in-Ok-clause-run_means g c =
     let call = call_of g.F.Folder g.S.Sink g.P.Port g.E.Sink c.args.words.now c.args.outside.now c.obey.new.outside c.obey.result in
     run_means_ordered c.in-Ok.order call c.meant_law.ensures c.in-Ok.ensures.order c.obey.ensures.ended
+
+pub returns-in-Ok-clause-suspends : goal.returns-in-Ok-clause-suspends
+returns-in-Ok-clause-suspends g c =
+    let call = call_of g.F.Folder g.S.Sink g.P.Port g.E.Sink c.args.words.now c.args.outside.now c.obey.new.outside c.obey.result in
+    suspends_ordered c.in-Ok.order call c.leaves_law.ensures.leaves c.in-Ok.ensures.run.cells c.in-Ok.ensures.run.bytes c.in-Ok.ensures.order c.obey.ensures.ended
+
+pub returns-in-Ok-clause-resume_means : goal.returns-in-Ok-clause-resume_means
+returns-in-Ok-clause-resume_means g c =
+    let call = call_of g.F.Folder g.S.Sink g.P.Port g.E.Sink c.args.words.now c.args.outside.now c.obey.new.outside c.obey.result in
+    resume_means_ordered c.in-Ok.order call c.resume_means_law.ensures c.in-Ok.ensures.order c.obey.ensures.ended
 
 pub returns-in-Ok-clause-stress_means : goal.returns-in-Ok-clause-stress_means
 returns-in-Ok-clause-stress_means g c =

@@ -100,7 +100,7 @@ returns-clause-went g c =
       went.0,
       has_resumed (second_name words) words c.args.save c.args.steps old new went.0 (g.F.Folder.files c.args.folder.now) (g.F.Folder.files c.go_on-ending.new.folder)
           c.args.library.now c.in-Ok-load_state.vm c.go_on-ending.result c.place_of-place.result c.place_of-place.ensures
-          (record { bytes = c.args.bytes.now; holds = c.requires.read; loaded = c.in-Ok-load_state.ensures.loaded; is_vm = c.in-Ok-load_state.ensures.ready }) went.1,
+          (record { bytes = c.args.bytes.now; holds = c.requires.read; loaded = c.in-Ok-load_state.ensures.loaded; is_vm = c.in-Ok-load_state.ensures.ready; tabled = c.in-Ok-load_state.ensures.tabled }) went.1,
       went.2,
     )
 

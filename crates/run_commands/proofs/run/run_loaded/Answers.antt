@@ -32,7 +32,7 @@ returns-in-Err-clause-went g c =
 pub run_library-end-requires : goal.run_library-end-requires
 run_library-end-requires g c =
     let first = subst (λ (r : Result Ready Ending). IfOk r (λ ready. (m : Module) × IsMainAt ready.main ready.place m ready.library)) c.in-Ok.is c.requires.there in
-    slice_get_within c.in-Ok.ready.library.modules c.in-Ok.ready.place (record { name = c.in-Ok.ready.main; held = first.0 }) first.1
+    record { there = slice_get_within c.in-Ok.ready.library.modules c.in-Ok.ready.place (record { name = c.in-Ok.ready.main; held = first.0 }) first.1 }
 
 pub returns-in-Ok-clause-flushed : goal.returns-in-Ok-clause-flushed
 returns-in-Ok-clause-flushed g c = λ s. c.run_library-end.ensures.flushed (run_over c.run_library-end.result c.args.steps c.ending_of.result c.ending_of.ensures s)

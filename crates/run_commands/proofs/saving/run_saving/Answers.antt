@@ -20,7 +20,7 @@ use Rattle.run_commands.proofs.saving.run_saving.Goals as goal
 pub run_for-end-requires : goal.run_for-end-requires
 run_for-end-requires g c =
     let first = subst (λ (r : Result Ready Ending). IfOk r (λ ready. (m : Module) × IsMainAt ready.main ready.place m ready.library)) c.in-Ok.is c.requires.there in
-    slice_get_within c.in-Ok.ready.library.modules c.in-Ok.ready.place (record { name = c.in-Ok.ready.main; held = first.0 }) first.1
+    record { there = slice_get_within c.in-Ok.ready.library.modules c.in-Ok.ready.place (record { name = c.in-Ok.ready.main; held = first.0 }) first.1 }
 
 -- it took all its steps
 -- ======================

@@ -17,4 +17,4 @@ returns-clause-some_frames c shelf vm is saved =
     some_parts shelf vm.arena vm.modules vm.frames.calls vm.paid (some_calls p.0 vm.frames.calls (is.runs saved.goes_on p.0 p.1).state.running.fits)
 
 pub returns-clause-few_frames : goal.returns-clause-few_frames
-returns-clause-few_frames c shelf vm saved = few_parts shelf vm.arena vm.modules vm.frames.calls vm.paid saved.few_calls
+returns-clause-few_frames c shelf vm saved = few_parts shelf vm.arena vm.modules vm.frames.calls vm.paid saved.within.few_calls
