@@ -1,21 +1,21 @@
 -- Which rule a position breaks at its first visit.
-use Rattle.std.proofs.Common.{◌≡◌, ◌≢◌, ℕ, zero, suc, ◌<◌, ◌≤◌, ◌⊎◌, inl, inr, Bool, true, false, ◌&&◌, List, [], ◌∷◌, length, map, get_or, set, Option, Some, None, refl, sym, ap, subst, ◌∙◌, arith}
+use Rattle.std.proofs.Common.{◌≡◌, ℕ, zero, suc, ◌<◌, ◌≤◌, inl, inr, Bool, true, false, ◌&&◌, List, [], ◌∷◌, length, map, get_or, Option, Some, None, refl, sym, ap, subst, ◌∙◌, arith}
 use Rattle.std.specs.Prelude.{slice_get, not, ◌||◌, nat_eq}
 use Rattle.std.proofs.lemmas.Bool.{false≢true, true≢false}
 use Rattle.bc_flow.specs.bc_shapes.declared.shape.Entry.{Entry}
-use Rattle.bc_flow.specs.bc_shapes.Shape.{At, Belows, Under, join, same_entries}
+use Rattle.bc_flow.specs.bc_shapes.Shape.{At, Belows, Under, same_entries}
 use Rattle.bc_flow.proofs.bc_shapes_lemmas.Joins.{Has, has_at, join_has, on_at}
 use Rattle.bc_flow.specs.Action.{Action}
 use Rattle.bc_flow.specs.Code.{Code}
 use Rattle.bc_flow.specs.Edges.{Edge, Way, edge_of, edges, finds, holds, room, stays, ways}
 use Rattle.bc_flow.specs.declared.code.Rule.{Rule}
 use Rattle.bc_flow.specs.declared.code.Rule.TheVariants.{Handlers, Height, State, Falls}
-use Rattle.bc_flow.specs.Verified.{Assigned, Bad, Each, none, also, FirstFault, Grows, IsLeast, Leads, Pending, Done, Table, Unseen, after_holds, after_put, agree, agrees, at, done_at, others, put_next, visit}
+use Rattle.bc_flow.specs.Verified.{Assigned, Bad, Each, also, FirstFault, Grows, IsLeast, Leads, Pending, Done, Table, Unseen, after_holds, after_put, agree, agrees, at, done_at, others, put_next, visit}
 use Rattle.bc_flow.proofs.Mono.{edges_under, finds_under, holds_under, room_under, ways_under}
-use Rattle.bc_flow.proofs.Puts.{grows_on, leads_on, some_is}
+use Rattle.bc_flow.proofs.Puts.{leads_on, some_is}
 use Rattle.bc_flow.proofs.Visits.{PutsAll, agree_below, done-at, done-long, pending_is, puts_all, puts_has}
 use Rattle.bc_flow.proofs.Walks.{visit_at}
-use Rattle.bc_refusals.specs.Stages.{Agrees, AnyClash, Between, Breaks, Clash, IsNext, IsSet, Lead, LeadAll, Stage, Staged, come, opened, within}
+use Rattle.bc_refusals.specs.Stages.{Agrees, AnyApart, AnyClash, Apart, ApartFrom, Between, Breaks, Clashes, IsNext, IsSet, LeadAll, Staged, come, opened, within}
 use Rattle.bc_refusals.proofs.Stages.{come-long, come_kept, lead_each, set_inside, settled, table_size, within_is, within_there}
 
 -- What entries say.
@@ -90,6 +90,24 @@ state_bad : (s : Bool) (u : Table) → after_put false s (Some u) ≡ Bad State
 state_bad true u = refl
 state_bad false u = refl
 
+-- Edges that an assignment leads along meet where they end.
+
+meets : (b : Assigned) (e f : Edge) → Leads b e → Leads b f → Apart e f → ⊥
+meets b e f l m k =
+    let same : m.at ≡ l.at = some_is m.at l.at (sym m.is ∙ sym (ap b k.together) ∙ l.is) in
+    subst (λ o. Has o (λ z. Belows z l.at.slots)) k.apart
+    (join_has e.at.slots f.at.slots l.at.slots l.under.slots (subst (λ z. Belows f.at.slots z.slots) same m.under.slots))
+
+meets_each : (b : Assigned) (e : Edge) (es : List Edge) → Leads b e → Each b es → ApartFrom e es → ⊥
+meets_each b e [] l each k = k
+meets_each b e (f ∷ es) l (also m each) (inl k) = meets b e f l m k
+meets_each b e (f ∷ es) l (also m each) (inr k) = meets_each b e es l each k
+
+all_meet : (b : Assigned) (es : List Edge) → Each b es → AnyApart es → ⊥
+all_meet b [] each k = k
+all_meet b (e ∷ es) (also l each) (inl k) = meets_each b e es l each k
+all_meet b (e ∷ es) (also l each) (inr k) = all_meet b es each k
+
 module _ (code : Code) (a : Assigned) (came : List Bool) (p : ℕ) (x : At) (i : Action) (is : slice_get code.actions p ≡ Some i) (there : a p ≡ Some x) (c : IsSet came p) where
   abbrev es : List Edge
   es = edges code i p x
@@ -139,14 +157,19 @@ module _ (code : Code) (a : Assigned) (came : List Bool) (p : ℕ) (x : At) (i :
           (join_has (opened k.there).slots e.at.slots v.at.slots v.under.slots (subst (λ z. Belows e.at.slots z.slots) same l.under.slots))
       clashes t u (e ∷ fs) m g (also l each) (inr k) = clashes t u fs m g each k
 
-      no_put : (t : Table) (y : At) → Between a came t → IsLeast t p y → AnyClash a came (edges code i p (opened x)) → (o : Option Table) → put_next (edges code i p y) (Some (done_at t p y)) ≡ o → o ≡ None
+      -- nor do those that come at once
+      no_meeting : (t u : Table) (fs : List Edge) → Between a came t → Grows (at t) (at u) → Each (at u) fs → Clashes a came fs → ⊥
+      no_meeting t u fs m g each (inl k) = clashes t u fs m g each k
+      no_meeting t u fs m g each (inr k) = all_meet (at u) fs each k
+
+      no_put : (t : Table) (y : At) → Between a came t → IsLeast t p y → Clashes a came (edges code i p (opened x)) → (o : Option Table) → put_next (edges code i p y) (Some (done_at t p y)) ≡ o → o ≡ None
       no_put t y m l k None e = refl
       no_put t y m l k (Some u) e =
           let v = on_at (put_next (edges code i p y) (Some (done_at t p y))) (PutsAll (done_at t p y) (edges code i p y)) u e (puts_all (edges code i p y) (done_at t p y)) in
           let grows : Grows (at t) (at u) = record { each = λ q z r. v.grows.each q z (done-at t p y l.pending q ∙ r) } in
-          absurd (clashes t u (edges code i p (opened x)) m grows (edges_under code (at u) i p (opened x) y (above_at t y m l) v.along) k)
+          absurd (no_meeting t u (edges code i p (opened x)) m grows (edges_under code (at u) i p (opened x) y (above_at t y m l) v.along) k)
 
-      pub breaks_put : length came ≡ length code.actions → Agrees a came es true → AnyClash a came (edges code i p (opened x)) → Breaks code a came p Height
+      pub breaks_put : length came ≡ length code.actions → Agrees a came es true → Clashes a came (edges code i p (opened x)) → Breaks code a came p Height
       breaks_put n g k t y long m l =
           visit_is t y true true (room code i y) (stays code i p) (held t y true (below_at t y m l) (g t (same_long n t long) m)) (found y (below_at t y m l)) refl refl
           ∙ ap (after_holds true true (room code i y) (stays code i p)) (no_put t y m l k (put_next (edges code i p y) (Some (done_at t p y))) refl)

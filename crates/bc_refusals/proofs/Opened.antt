@@ -1,5 +1,5 @@
 -- What may have come to a position first lies below what holds there, and so does what leaves it.
-use Rattle.std.proofs.Common.{◌≡◌, ℕ, zero, suc, ◌-◌, Bool, true, false, List, [], ◌∷◌, ◌++◌, length, map, drop, get_or, refl, sym, ap, subst, ◌∙◌}
+use Rattle.std.proofs.Common.{◌≡◌, ℕ, zero, suc, ◌-◌, true, false, List, [], ◌∷◌, ◌++◌, length, map, drop, get_or, refl, sym, ap, subst, ◌∙◌}
 use Rattle.std.proofs.lemmas.List.{length-map, drop-map}
 use Rattle.bc_flow.specs.bc_shapes.declared.kinds.Kind.{Kind}
 use Rattle.bc_flow.specs.bc_shapes.declared.kinds.Kind.TheVariants as kinds

@@ -1,21 +1,19 @@
 -- The walk comes from one first visit to the next.
-use Rattle.std.proofs.Common.{◌≡◌, ◌≢◌, ℕ, zero, suc, ◌+◌, ◌<◌, ◌≤◌, ◌⊎◌, inl, inr, Bool, true, false, List, [], ◌∷◌, length, map, get_or, set, Some, None, refl, sym, ap, subst, ◌∙◌, arith, if◌then◌else◌}
-use Rattle.std.specs.Prelude.{slice_get}
+use Rattle.std.proofs.Common.{◌≡◌, ◌≢◌, ℕ, zero, suc, ◌<◌, ◌≤◌, ◌⊎◌, inl, inr, Bool, true, false, List, [], ◌∷◌, length, map, get_or, set, Some, None, refl, sym, ap, subst, ◌∙◌, arith, if◌then◌else◌}
 use Rattle.std.proofs.lemmas.Bool.{true≢false, false≢true}
-use Rattle.std.proofs.lemmas.List.{length-map, length-set, get_or-set_same, get_or-set_other}
+use Rattle.std.proofs.lemmas.List.{length-set, get_or-set_same, get_or-set_other}
 use Rattle.std.proofs.lemmas.Option.{none-some}
 use Rattle.bc_flow.specs.bc_shapes.Shape.{At, Under}
 use Rattle.bc_flow.proofs.bc_shapes_lemmas.Joins.{under_refl, under_trans}
 use Rattle.bc_flow.specs.Action.{Action}
 use Rattle.bc_flow.specs.Code.{Code}
 use Rattle.bc_flow.specs.Edges.{Edge, Way, edge_of, edges, ways}
-use Rattle.bc_flow.specs.declared.code.Rule.{Rule}
 use Rattle.bc_flow.specs.Verified.{Assigned, Bad, Cell, Comes, Done, Each, none, also, Fine, Good, Grows, IsLeast, IsPending, here, later, Leads, Pending, Table, Unseen, Visit, at, done_at, visit}
 use Rattle.bc_flow.proofs.Mono.{edges_under, fine_under, ways_under}
 use Rattle.bc_flow.proofs.Puts.{IsDone, at_here, at_later, grows_on, leads_on, some_is, weigh}
-use Rattle.bc_flow.proofs.Visits.{OnVisit, Visited, done_cases, pending_in, pending_is, visit_has, visit_on, visited_lighter}
+use Rattle.bc_flow.proofs.Visits.{OnVisit, Visited, done_cases, pending_is, visit_has, visit_on, visited_lighter}
 use Rattle.bc_flow.proofs.Decides.{at_visit, comes_reached, fine_grows, kept, visited_grows}
-use Rattle.bc_refusals.specs.Stages.{BeginAll, Begins, Between, Brings, first, more, IsNext, IsSet, Keeps, Lead, LeadAll, Stage, Staged, come, opened, within}
+use Rattle.bc_refusals.specs.Stages.{BeginAll, Begins, Brings, first, more, IsNext, IsSet, Keeps, LeadAll, Stage, Staged, come, opened, within}
 use Rattle.bc_refusals.proofs.Opened.{edge_open, opened_under}
 
 -- Tables.

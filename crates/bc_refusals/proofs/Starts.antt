@@ -12,7 +12,7 @@ use Rattle.bc_flow.specs.Code.{Code}
 use Rattle.bc_flow.specs.Edges.{Edge, behind, change, edge_of, edges, falls, next_way}
 use Rattle.bc_flow.specs.declared.edges.Edge.{Edge as RustEdge}
 use Rattle.bc_flow.specs.Views.{edge_of_rust}
-use Rattle.bc_flow.specs.Verified.{Assigned, Comes, Fine, IsPending, Leads, Table, Unseen, at, begin, here, table_at}
+use Rattle.bc_flow.specs.Verified.{Assigned, Comes, IsPending, Leads, Unseen, at, begin, here, table_at}
 use Rattle.bc_flow.proofs.Puts.{some_is}
 use Rattle.bc_certificates.specs.Rows.{Rows, brought, carried, fall, goes_on, or_else, other_ways, row}
 use Rattle.bc_certificates.proofs.Carrying.{ways_are}

@@ -1,4 +1,5 @@
 -- Lists of edges, one by one.
+use Rattle.std.specs.Bool.{OnTrue}
 use Rattle.std.specs.Prelude.{not, ◌&&◌, IfSome, Option, Some}
 use Rattle.std.proofs.lemmas.Bool.{and_from, and_parts, cases_order, false≢true, true≢false}
 use Rattle.std.proofs.Common.{◌≡◌, ℕ, zero, suc, ◌+◌, ◌<◌, ◌≤◌, ◌⊎◌, inl, inr, Bool, true, false, List, [], ◌∷◌, length, map, drop, get_or, set, refl, sym, ap, subst, ◌∙◌, arith}
@@ -8,7 +9,7 @@ use Rattle.bc_flow.specs.bc_shapes.Shape.{At, Under}
 use Rattle.bc_flow.specs.Edges.{Edge}
 use Rattle.bc_flow.specs.Verified.{Assigned, Table, agree, agrees, others}
 use Rattle.bc_flow.specs.Views.{edge_of_rust}
-use Rattle.bc_refusals.specs.Stages.{AnyClash, BeginAll, Begins, Brings, first, more, Clash, IsNext, IsSet, Lead, LeadAll, Opens, come, opened}
+use Rattle.bc_refusals.specs.Stages.{AnyApart, AnyClash, Apart, ApartFrom, BeginAll, Begins, Brings, first, more, Clash, Clashes, IsNext, IsSet, Lead, LeadAll, Opens, come, opened}
 use Rattle.bc_refusals.specs.Views.{Passed}
 use Rattle.bc_refusals.proofs.Stages.{set_cases}
 
@@ -40,6 +41,24 @@ pub clash_at : (a : Assigned) (came : List Bool) (es : List RustEdge) (k : ℕ) 
 clash_at a came [] k f lt c = absurd (omega (arith, lt))
 clash_at a came (e ∷ es) zero f lt c = inl c
 clash_at a came (e ∷ es) (suc k) f lt c = inr (clash_at a came es k f (omega (arith, lt)) c)
+
+pub apart_at : (e : Edge) (es : List RustEdge) (k : ℕ) (f : RustEdge) → k < length es → Apart e (edge_of_rust (get_or es k f)) → ApartFrom e (map edge_of_rust es)
+apart_at e [] k f lt c = absurd (omega (arith, lt))
+apart_at e (d ∷ es) zero f lt c = inl c
+apart_at e (d ∷ es) (suc k) f lt c = inr (apart_at e es k f (omega (arith, lt)) c)
+
+-- an edge is apart from one of those behind it
+parts_on : (es : List RustEdge) (k : ℕ) (f : RustEdge) → k < length es → ApartFrom (edge_of_rust (get_or es k f)) (map edge_of_rust (drop (suc k) es)) → AnyApart (map edge_of_rust es)
+parts_on [] k f lt c = absurd (omega (arith, lt))
+parts_on (e ∷ es) zero f lt c = inl c
+parts_on (e ∷ es) (suc k) f lt c = inr (parts_on es k f (omega (arith, lt)) c)
+
+pub parts_at : (es : List RustEdge) (k : ℕ) (f : RustEdge) (bs : List RustEdge) → k < length es → bs ≡ drop (k + 1) es → ApartFrom (edge_of_rust (get_or es k f)) (map edge_of_rust bs) → AnyApart (map edge_of_rust es)
+parts_at es k f bs lt h c = let n : k + 1 ≡ suc k = omega arith in parts_on es k f lt (subst (λ z. ApartFrom (edge_of_rust (get_or es k f)) (map edge_of_rust z)) (h ∙ ap (λ m. drop m es) n) c)
+
+pub apart_clash : (a : Assigned) (came : List Bool) (es : List Edge) (yes : Bool) → OnTrue yes (AnyApart es) → OnTrue yes (Clashes a came es)
+apart_clash a came es true k = inr k
+apart_clash a came es false k = tt
 
 pub come_step : (came : List Bool) (es : List RustEdge) (k : ℕ) (f : RustEdge) → k < length es → come came (map edge_of_rust (drop k es)) ≡ come (set came (get_or es k f).to true) (map edge_of_rust (drop (k + 1) es))
 come_step came es k f lt = ap (λ z. come came (map edge_of_rust z)) (drop_more es k f lt)

@@ -1,5 +1,5 @@
 -- Tables of the walk that lie between two assignments, at the first visits of positions.
-use Rattle.std.specs.Prelude.{◌≡◌, ◌⊎◌, ℕ, ◌<◌, Bool, true, false, List, [], ◌∷◌, length, map, get_or, set, slice_get, Option, Some, None, if◌then◌else◌}
+use Rattle.std.specs.Prelude.{◌≡◌, ◌⊎◌, ℕ, ◌<◌, Bool, true, false, List, [], ◌∷◌, length, map, get_or, set, slice_get, Some, None, if◌then◌else◌}
 use Rattle.bc_flow.specs.bc_shapes.declared.kinds.Kind.{Kind}
 use Rattle.bc_flow.specs.bc_shapes.declared.kinds.Kind.TheVariants as kinds
 use Rattle.bc_flow.specs.bc_shapes.Shape.{At, Under, join}
@@ -95,6 +95,25 @@ pub record Clash (a : Assigned) (came : List Bool) (e : Edge) : Type 0 where
 abbrev pub AnyClash : Assigned → List Bool → List Edge → Type 0
 AnyClash a came [] = ⊥
 AnyClash a came (e ∷ es) = Clash a came e ⊎ AnyClash a came es
+
+-- two edges end at one position, and what they bring there doesn't meet
+pub record Apart (e f : Edge) : Type 0 where
+  pub together : e.to ≡ f.to
+  pub apart : join e.at.slots f.at.slots ≡ None
+
+-- an edge and one of the others do so
+abbrev pub ApartFrom : Edge → List Edge → Type 0
+ApartFrom e [] = ⊥
+ApartFrom e (f ∷ fs) = Apart e f ⊎ ApartFrom e fs
+
+-- two of the edges do so
+abbrev pub AnyApart : List Edge → Type 0
+AnyApart [] = ⊥
+AnyApart (e ∷ es) = ApartFrom e es ⊎ AnyApart es
+
+-- what an edge brings doesn't meet what may have come to its end first, or what another edge brings there
+abbrev pub Clashes : Assigned → List Bool → List Edge → Type 0
+Clashes a came es = AnyClash a came es ⊎ AnyApart es
 
 -- whether the lists of entries that meet agree, in each table between
 abbrev pub Agrees : Assigned → List Bool → List Edge → Bool → Type 0

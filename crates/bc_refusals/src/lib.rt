@@ -8,6 +8,7 @@ mod judging;
 mod leaving;
 mod opening;
 mod order;
+mod parting;
 mod refusing;
 mod walk;
 

@@ -9,12 +9,13 @@ ghost use Rattle.bc_flow.specs.Views.{action_of, edge_of_rust};
 ghost use Rattle.bc_certificates.specs.Checking.{rows_of};
 ghost use Rattle.bc_certificates.specs.Rows as rows_specs;
 ghost use Rattle.bc_refusals.specs.Stages as specs;
-ghost use Rattle.bc_refusals.specs.Stages.{Agrees, AnyClash, Breaks, IsSet};
+ghost use Rattle.bc_refusals.specs.Stages.{Agrees, Breaks, Clashes, IsSet};
 ghost use Rattle.bc_refusals.specs.Views.{IsCarried};
 
 use crate::agreeing::agree;
 use crate::arriving::{Carried, all_lead, any_clash};
 use crate::opening::open_shape;
+use crate::parting::any_apart;
 use bc_certificates::{Seen, Table};
 use bc_flow::{
     Action, Code, Edge, Rule, all_edges, base, copy, finds, holds, nothing, room, stays,
@@ -31,7 +32,7 @@ fn misses(action: &Action, x: &Shape) -> bool
     !finds(action, x, base)
 }
 
-/// Do the slots at the ends of edges not meet what they bring, whatever came first?
+/// Do the slots at the ends of edges not meet what they bring, whatever came first, or what two edges bring to one position?
 fn clashes_first(
     alloc: Global,
     code: &Code,
@@ -45,12 +46,15 @@ fn clashes_first(
 ) -> Result<bool, NoMemory>
     requires within { p < length code.now.items.items }
     requires carried_is { IsCarried (code_of code.now) (rows_of table.now) carried.now }
-    ensures { IfOk result (λ yes. OnTrue yes (AnyClash (rows_specs.carried (code_of code.now) (rows_of table.now)) came.now
+    ensures { IfOk result (λ yes. OnTrue yes (Clashes (rows_specs.carried (code_of code.now) (rows_of table.now)) came.now
         (edges_specs.edges (code_of code.now) (action_of action.now) p (at_of low.now)))) }
 {
     let base = base(action, low);
     let edges = all_edges(alloc, code, action, p, low, base)?;
-    any_clash(table, carried, came, &edges, there)
+    if any_clash(table, carried, came, &edges, there)? {
+        return Ok(true);
+    }
+    any_apart(&edges, there)
 }
 
 /// The rule State or Falls, where that is broken and all edges lead to rows.

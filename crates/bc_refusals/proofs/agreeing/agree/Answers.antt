@@ -1,8 +1,4 @@
-use Rattle.std.proofs.Common.{◌≡◌, ◌∙◌, [], arith, sym}
-use Rattle.bc_flow.specs.bc_shapes.Views.{at_of}
-use Rattle.bc_flow.specs.Views.{edge_of_rust}
-use Rattle.bc_certificates.specs.Checking.{rows_of}
-use Rattle.bc_certificates.specs.Rows.{carried}
+use Rattle.std.proofs.Common.{◌∙◌, [], arith}
 use Rattle.bc_refusals.proofs.Steps.{agree_end, agree_more, some_at, others_below, three_first, three_last, two_last}
 use Rattle.bc_refusals.proofs.agreeing.agree.Goals as goal
 

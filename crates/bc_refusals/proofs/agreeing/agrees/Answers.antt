@@ -1,4 +1,4 @@
-use Rattle.std.proofs.Common.{◌≡◌, ◌∙◌, ◌<◌, ◌≤◌, ap, arith, length, map, rules, sym}
+use Rattle.std.proofs.Common.{◌∙◌, ap, arith, sym}
 use Rattle.std.proofs.lemmas.Bool.{OnTrue_at}
 use Rattle.bc_flow.specs.bc_shapes.Shape.{same_entries}
 use Rattle.bc_flow.specs.bc_shapes.Views.{at_of}

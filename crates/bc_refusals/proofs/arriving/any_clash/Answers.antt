@@ -1,6 +1,4 @@
 use Rattle.std.proofs.lemmas.Bool.{OnTrue_at}
-use Rattle.bc_flow.specs.bc_shapes.Views.{at_of}
-use Rattle.bc_flow.specs.Views.{edge_of_rust}
 use Rattle.bc_certificates.specs.Checking.{rows_of}
 use Rattle.bc_certificates.specs.Rows.{carried}
 use Rattle.bc_refusals.proofs.Steps.{clash_at}

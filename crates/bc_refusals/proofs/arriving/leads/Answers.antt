@@ -1,4 +1,4 @@
-use Rattle.std.proofs.Common.{◌≡◌, arith, length, rules, subst}
+use Rattle.std.proofs.Common.{arith, subst}
 use Rattle.std.proofs.lemmas.Bool.{OnTrue_at}
 use Rattle.bc_flow.specs.bc_shapes.Shape.{Under}
 use Rattle.bc_flow.specs.bc_shapes.Views.{at_of}

@@ -1,7 +1,5 @@
-use Rattle.std.proofs.Common.{◌∙◌, ap, arith, map, drop, sym}
-use Rattle.bc_flow.specs.Views.{edge_of_rust}
-use Rattle.bc_refusals.specs.Stages.{come}
-use Rattle.bc_refusals.proofs.Steps.{come_end, come_step}
+use Rattle.std.proofs.Common.{◌∙◌, arith, sym}
+use Rattle.bc_refusals.proofs.Steps.{come_end}
 use Rattle.bc_refusals.proofs.arriving.note_all.Goals as goal
 
 pub returns-clause-come : goal.returns-clause-come

@@ -1,5 +1,4 @@
 use Rattle.std.proofs.Common.{◌∙◌, ap, sym, Some}
-use Rattle.bc_flow.specs.bc_shapes.Views.{at_of}
 use Rattle.bc_certificates.specs.Checking.{at_row, rows_of}
 use Rattle.bc_certificates.proofs.Carrying.{row_carried}
 use Rattle.bc_refusals.proofs.arriving.read_there.Goals as goal

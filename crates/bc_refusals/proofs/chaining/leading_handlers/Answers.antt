@@ -1,4 +1,4 @@
-use Rattle.std.proofs.Common.{◌≡◌, subst, sym}
+use Rattle.std.proofs.Common.{subst, sym}
 use Rattle.bc_certificates.specs.Checking.{rows_of}
 use Rattle.bc_refusals.specs.Chains.{LeadOn}
 use Rattle.bc_refusals.proofs.Runs.{none_lead}

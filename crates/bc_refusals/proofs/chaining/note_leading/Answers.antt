@@ -1,6 +1,5 @@
-use Rattle.std.proofs.Common.{◌≡◌, ◌∙◌, Some, sym, subst}
+use Rattle.std.proofs.Common.{◌∙◌, sym, subst}
 use Rattle.std.proofs.lemmas.Bool.{OnTrue_at}
-use Rattle.bc_flow.specs.bc_shapes.Views.{at_of}
 use Rattle.bc_flow.proofs.Puts.{some_is}
 use Rattle.bc_certificates.specs.Checking.{Lies, at_row, rows_of}
 use Rattle.bc_refusals.specs.Chains.{LeadOn}

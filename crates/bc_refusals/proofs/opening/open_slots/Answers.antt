@@ -1,4 +1,4 @@
-use Rattle.std.proofs.Common.{◌≡◌, ◌<◌, ◌∙◌, ap, length, rules, set}
+use Rattle.std.proofs.Common.{◌<◌, ◌∙◌, ap, length, rules, set}
 use Rattle.std.proofs.lemmas.List.{length-set}
 use Rattle.std.proofs.lemmas.List.Edits.{map_over_more}
 use Rattle.bc_refusals.specs.Stages.{open_kind}

@@ -1,4 +1,3 @@
-use Rattle.std.proofs.Common.{map}
 use Rattle.std.proofs.lemmas.Bool.{OnTrue_at, OnTrue_from}
 use Rattle.std.proofs.lemmas.Result.{IfOk-weaker}
 use Rattle.bc_flow.specs.bc_shapes.Views.{at_of}
