@@ -14,7 +14,7 @@ use prim_builtins::{
     Stop, call_abs, call_bool, call_chr, call_len, call_ord, call_range, only_between, only_so_many,
 };
 use prim_collections::{call_list, call_max, call_min, call_tuple};
-use prim_types::{call_dict, call_int, call_isinstance, call_kind, call_repr, call_str};
+use prim_types::{call_dict, call_int, call_isinstance, call_kind, call_shown};
 
 /// A built-in that only judges how many arguments it is given.
 fn take_exactly<C: Constants>(
@@ -113,7 +113,7 @@ pub fn call_on_heap<C: Constants>(
     match b {
         Builtin::Bool => call_bool(arena, consts, args, keys),
         Builtin::Int => call_int(arena, consts, args, keys),
-        Builtin::Str => call_str(arena, consts, args, keys),
+        Builtin::Str => call_shown(arena, consts, args, keys, true),
         Builtin::List => call_list(arena, consts, args, keys),
         Builtin::Tuple => call_tuple(arena, consts, args, keys),
         Builtin::Dict => call_dict(arena, consts, args, keys),
@@ -122,7 +122,7 @@ pub fn call_on_heap<C: Constants>(
         Builtin::Range => call_range(arena, consts, args, keys),
         Builtin::Min => call_min(arena, consts, args, keys),
         Builtin::Max => call_max(arena, consts, args, keys),
-        Builtin::Repr => call_repr(arena, consts, args, keys),
+        Builtin::Repr => call_shown(arena, consts, args, keys, false),
         Builtin::Ord => call_ord(arena, consts, args, keys),
         Builtin::Chr => call_chr(arena, consts, args, keys),
         Builtin::IsInstance => call_isinstance(arena, consts, args, keys),

@@ -15,7 +15,7 @@ use prim_methods::{
 };
 use prim_outputs::visits_call_print;
 use prim_str_methods::visits_call_str_join;
-use prim_types::{visits_call_repr, visits_call_str};
+use prim_types::visits_call_shown;
 
 /// How many visits `call_method` of these makes, up to `most`. It goes no further.
 pub fn visits_call_method<C: Constants>(
@@ -64,8 +64,8 @@ pub fn visits_call_builtin<C: Constants>(
 {
     match b {
         Builtin::Print => visits_call_print(arena, consts, args, keys, most),
-        Builtin::Str => visits_call_str(arena, consts, args, keys, most),
-        Builtin::Repr => visits_call_repr(arena, consts, args, keys, most),
+        Builtin::Str => visits_call_shown(arena, consts, args, keys, true, most),
+        Builtin::Repr => visits_call_shown(arena, consts, args, keys, false, most),
         Builtin::List => visits_call_list(arena, consts, args, keys, most),
         Builtin::Tuple => visits_call_tuple(arena, consts, args, keys, most),
         Builtin::Min => visits_call_min(arena, consts, args, keys, most),

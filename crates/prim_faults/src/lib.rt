@@ -21,10 +21,10 @@ pub use method::SpecialMethod;
 pub use prim_walks::{
     Arena, Builtin, Constants, DictNo, ExcNo, ListNo, Look, ModuleNo, NumFault, SmallInt, StrNo,
     TextNo, TextPart, TupleNo, Unordered, Value, builtin_name, contains, dict_delete, dict_get,
-    dict_len, dict_set, equal, exc_parts, exc_place, is_one, item_at, item_count, list_extend,
-    list_pop, list_set, look_at, make_byte, make_texts, module_parts, order, put_in_list,
-    range_count, range_number, text_bytes, text_fill, text_len, text_part, truth, tuple_fill,
-    visits_contains, visits_equal, visits_order, visits_text, whole_text,
+    dict_len, dict_set, equal, exc_parts, exc_place, global_builtins, is_one, item_at, item_count,
+    list_extend, list_pop, list_set, look_at, make_byte, make_texts, module_parts, order,
+    put_in_list, range_count, range_number, text_bytes, text_fill, text_len, text_part, truth,
+    tuple_fill, visits_contains, visits_equal, visits_order, visits_text, whole_text,
 };
 pub use seen_names::name_bytes;
 pub use stop::Stop;

@@ -6,55 +6,12 @@ ghost use Rattle.prim_raising.specs.qstr_pool.declared.table.TheConstants.{FIRST
 ghost use Rattle.prim_raising.specs.qstr_pool.Static.{static_text_of};
 ghost use Rattle.prim_methods.specs.arena_objects.Iterables.{or_nothing};
 ghost use Rattle.prim_raising.specs.py_effects.py_values.Names.{builtin_name as name_of};
-ghost use Rattle.prim_raising.specs.py_effects.py_primitives.Builtins.{named as first_named, globals as all_globals, global_named as builtin_of_name};
+ghost use Rattle.prim_raising.specs.py_effects.py_primitives.Builtins.{named as first_named, global_named as builtin_of_name};
 
 use crate::globals::name_bytes;
 use arena_heap::{Constants, StrNo};
 use mpy_base::{Builtin, Kind};
-use prim_operators::builtin_name;
-
-/// What names can mean that no namespace has, in the order in which a name is looked for.
-const GLOBALS: [Builtin; 39] = [
-    Builtin::Bool,
-    Builtin::Int,
-    Builtin::Str,
-    Builtin::List,
-    Builtin::Tuple,
-    Builtin::Dict,
-    Builtin::Print,
-    Builtin::Len,
-    Builtin::Abs,
-    Builtin::Range,
-    Builtin::Min,
-    Builtin::Max,
-    Builtin::Repr,
-    Builtin::Ord,
-    Builtin::Chr,
-    Builtin::IsInstance,
-    Builtin::Kind(Kind::BaseException),
-    Builtin::Kind(Kind::SystemExit),
-    Builtin::Kind(Kind::KeyboardInterrupt),
-    Builtin::Kind(Kind::Exception),
-    Builtin::Kind(Kind::ArithmeticError),
-    Builtin::Kind(Kind::OverflowError),
-    Builtin::Kind(Kind::ZeroDivisionError),
-    Builtin::Kind(Kind::AssertionError),
-    Builtin::Kind(Kind::AttributeError),
-    Builtin::Kind(Kind::EofError),
-    Builtin::Kind(Kind::ImportError),
-    Builtin::Kind(Kind::LookupError),
-    Builtin::Kind(Kind::IndexError),
-    Builtin::Kind(Kind::KeyError),
-    Builtin::Kind(Kind::MemoryError),
-    Builtin::Kind(Kind::NameError),
-    Builtin::Kind(Kind::OsError),
-    Builtin::Kind(Kind::RuntimeError),
-    Builtin::Kind(Kind::NotImplementedError),
-    Builtin::Kind(Kind::StopIteration),
-    Builtin::Kind(Kind::SyntaxError),
-    Builtin::Kind(Kind::TypeError),
-    Builtin::Kind(Kind::ValueError),
-];
+use prim_operators::{builtin_name, global_builtins};
 
 /// What the texts that every file may name by number mean, by their numbers, which count from 1.
 const STATIC_GLOBALS: [Option<Builtin>; 166] = [
@@ -226,12 +183,6 @@ const STATIC_GLOBALS: [Option<Builtin>; 166] = [
     None,
 ];
 
-fn globals() -> &'static [Builtin]
-    ensures { result.now ≡ all_globals }
-{
-    &GLOBALS
-}
-
 /// The first of these built-ins that has this name.
 fn named(builtins: &[Builtin], name: &[u8]) -> Option<Builtin>
     ensures { result ≡ first_named (map (λ b. (name_of b, b)) builtins.now) name.now }
@@ -248,7 +199,7 @@ fn named(builtins: &[Builtin], name: &[u8]) -> Option<Builtin>
 fn global_named(name: &[u8]) -> Option<Builtin>
     ensures { result ≡ builtin_of_name name.now }
 {
-    named(globals(), name)
+    named(global_builtins(), name)
 }
 
 /// What the texts mean that every file may name, by their numbers.

@@ -31,8 +31,9 @@ pub use operators::{Operator, UnaryOperator};
 pub use prim_faults::{
     Arena, Constants, DictNo, ExcNo, Fault, ListNo, Look, ModuleNo, NumFault, SpecialMethod, Stop,
     StrNo, TextNo, TextPart, TupleNo, Value, ValueType, builtin_name, dict_delete, dict_get,
-    dict_set, exc_parts, exc_place, fault_byte, fault_kind, fault_len, is_key, item_at, item_count,
-    list_extend, list_set, look_at, make_byte, make_texts, module_parts, name_bytes, text_bytes,
-    text_fill, text_len, text_part, truth, tuple_fill, type_name, type_of, visits_text, whole_text,
+    dict_set, exc_parts, exc_place, fault_byte, fault_kind, fault_len, global_builtins, is_key,
+    item_at, item_count, list_extend, list_set, look_at, make_byte, make_texts, module_parts,
+    name_bytes, text_bytes, text_fill, text_len, text_part, truth, tuple_fill, type_name, type_of,
+    visits_text, whole_text,
 };
 pub use two_operands::binary;

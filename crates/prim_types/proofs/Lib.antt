@@ -13,6 +13,7 @@ pub mod MemberItems
 pub mod NumeralSteps
 pub mod OldValues
 pub mod PartWrites
+pub mod Showings
 pub mod TextFrames
 pub mod TwoArguments
 pub mod TypeTests

@@ -1,5 +1,7 @@
 -- The texts of values, and texts that are written part by part.
-use Rattle.std.specs.Prelude.{◌≡◌, ℕ, ◌+◌, List, ◌++◌, length, take, drop, Bool, Option}
+use Rattle.std.specs.Prelude.{◌≡◌, ℕ, ◌+◌, List, ◌++◌, length, take, drop, Bool, true, false, Option}
+use Rattle.mpy_base.specs.declared.builtin.Builtin.{Builtin}
+use Rattle.mpy_base.specs.declared.builtin.Builtin.TheVariants as builtins
 use Rattle.mpy_base.specs.World.{Heap, with_text}
 use Rattle.prim_builtins.specs.arena_heap.declared.value.Value.{Value}
 use Rattle.prim_builtins.specs.arena_heap.declared.value.StrNo.{StrNo}
@@ -7,6 +9,11 @@ use Rattle.prim_builtins.specs.arena_heap.declared.value.ConstNo.{ConstNo}
 use Rattle.prim_builtins.specs.arena_objects.Iterables.{or_nothing}
 use Rattle.prim_builtins.specs.prim_walks.Plain.{plain, plain_heap}
 use Rattle.prim_builtins.specs.prim_walks.Whole.{text_of}
+
+-- the built-in that shows a value, raw or not
+abbrev pub shown_by : Bool → Builtin
+shown_by true = builtins.Str
+shown_by false = builtins.Repr
 
 -- bytes that stand in the place of those from a place on
 abbrev pub written_over : ℕ → List ℕ → List ℕ → List ℕ

@@ -19,4 +19,4 @@ pub use prim_operators::{
     Arena, Constants, ExcNo, Fault, Stop, StrNo, TextNo, TupleNo, Value, exc_place, fault_byte,
     fault_kind, fault_len, text_bytes, text_fill, tuple_fill,
 };
-pub use texts::{call_repr, call_str, visits_call_repr, visits_call_str};
+pub use texts::{call_shown, visits_call_shown};

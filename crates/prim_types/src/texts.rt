@@ -1,7 +1,6 @@
 //! `str` and `repr`.
 
 ghost use Rattle.std.specs.Prelude.{◌≡◌, ◌+◌, ◌-◌, ◌<◌, ◌≤◌, ◌^◌, length, min, take, drop, map, IsSome, IfSome, All};
-ghost use Rattle.mpy_base.specs.declared.builtin.Builtin.TheVariants as builtins;
 ghost use Rattle.mpy_base.specs.World.{AText, IsA, Later, text_at, with_text};
 ghost use Rattle.prim_builtins.specs.arena_heap.Values.{Leads};
 ghost use Rattle.prim_builtins.specs.arena_heap.Constants.{IsTold};
@@ -12,7 +11,7 @@ ghost use Rattle.prim_builtins.specs.prim_walks.Plain.{plain, plain_pair, plain_
 ghost use Rattle.prim_builtins.specs.prim_walks.Whole.{text_of as text_of_walk};
 ghost use Rattle.prim_builtins.specs.prim_faults.Faults.{IsKnown};
 ghost use Rattle.prim_builtins.specs.prim_faults.Outcomes.{IsOutcome};
-ghost use Rattle.prim_types.specs.Texts.{found_text, text_in, IsApart, written_over};
+ghost use Rattle.prim_types.specs.Texts.{found_text, text_in, IsApart, shown_by, written_over};
 
 use prim_builtins::one_argument;
 use prim_operators::{
@@ -209,86 +208,46 @@ fn make_shown<C: Constants>(
     }
 }
 
-/// `str` of these arguments.
-pub fn call_str<C: Constants>(
+/// `str` of these arguments, or `repr` of them where it isn't raw.
+pub fn call_shown<C: Constants>(
     arena: &mut Arena,
     consts: &C,
     args: &[Value],
     keys: &[(Value, Value)],
+    raw: bool,
 ) -> Result<Value, Stop>
     requires few { length args.now < 2 ^ 32 }
     requires known { All (IsKnown (C.text_of consts.now) (C.items_of consts.now) arena.old.objects) args.now }
     requires all_told { AllTold (C.text_of consts.now) (C.items_of consts.now) arena.old.objects }
     ensures { IsOutcome (C.text_of consts.now) (C.items_of consts.now) arena.old arena.new result
-        (call (plain_heap (C.text_of consts.now) (C.items_of consts.now) arena.old) builtins.Str
+        (call (plain_heap (C.text_of consts.now) (C.items_of consts.now) arena.old) (shown_by raw)
         (map (plain (C.text_of consts.now) (C.items_of consts.now)) args.now)
         (map (plain_pair (C.text_of consts.now) (C.items_of consts.now)) keys.now)) }
 {
     match one_argument(args, keys) {
-        Ok(v) => make_shown(arena, consts, v, true),
+        Ok(v) => make_shown(arena, consts, v, raw),
         Err(fault) => Err(Stop::Raises(fault)),
     }
 }
 
-/// How many visits `call_str` makes, `most` at most. It goes no further.
-pub fn visits_call_str<C: Constants>(
+/// How many visits `call_shown` makes, `most` at most. It goes no further.
+pub fn visits_call_shown<C: Constants>(
     arena: &Arena,
     consts: &C,
     args: &[Value],
     keys: &[(Value, Value)],
+    raw: bool,
     most: u64,
 ) -> u64
     requires few { length args.now < 2 ^ 32 }
     requires known { All (IsKnown (C.text_of consts.now) (C.items_of consts.now) arena.now.objects) args.now }
     requires all_told { AllTold (C.text_of consts.now) (C.items_of consts.now) arena.now.objects }
-    ensures { result ≡ min (call (plain_heap (C.text_of consts.now) (C.items_of consts.now) arena.now) builtins.Str
+    ensures { result ≡ min (call (plain_heap (C.text_of consts.now) (C.items_of consts.now) arena.now) (shown_by raw)
         (map (plain (C.text_of consts.now) (C.items_of consts.now)) args.now)
         (map (plain_pair (C.text_of consts.now) (C.items_of consts.now)) keys.now)).visits most }
 {
     match one_argument(args, keys) {
-        Ok(v) => visits_text(arena, consts, v, true, most),
-        Err(_) => 0,
-    }
-}
-
-/// `repr` of these arguments.
-pub fn call_repr<C: Constants>(
-    arena: &mut Arena,
-    consts: &C,
-    args: &[Value],
-    keys: &[(Value, Value)],
-) -> Result<Value, Stop>
-    requires few { length args.now < 2 ^ 32 }
-    requires known { All (IsKnown (C.text_of consts.now) (C.items_of consts.now) arena.old.objects) args.now }
-    requires all_told { AllTold (C.text_of consts.now) (C.items_of consts.now) arena.old.objects }
-    ensures { IsOutcome (C.text_of consts.now) (C.items_of consts.now) arena.old arena.new result
-        (call (plain_heap (C.text_of consts.now) (C.items_of consts.now) arena.old) builtins.Repr
-        (map (plain (C.text_of consts.now) (C.items_of consts.now)) args.now)
-        (map (plain_pair (C.text_of consts.now) (C.items_of consts.now)) keys.now)) }
-{
-    match one_argument(args, keys) {
-        Ok(v) => make_shown(arena, consts, v, false),
-        Err(fault) => Err(Stop::Raises(fault)),
-    }
-}
-
-/// How many visits `call_repr` makes, `most` at most. It goes no further.
-pub fn visits_call_repr<C: Constants>(
-    arena: &Arena,
-    consts: &C,
-    args: &[Value],
-    keys: &[(Value, Value)],
-    most: u64,
-) -> u64
-    requires few { length args.now < 2 ^ 32 }
-    requires known { All (IsKnown (C.text_of consts.now) (C.items_of consts.now) arena.now.objects) args.now }
-    requires all_told { AllTold (C.text_of consts.now) (C.items_of consts.now) arena.now.objects }
-    ensures { result ≡ min (call (plain_heap (C.text_of consts.now) (C.items_of consts.now) arena.now) builtins.Repr
-        (map (plain (C.text_of consts.now) (C.items_of consts.now)) args.now)
-        (map (plain_pair (C.text_of consts.now) (C.items_of consts.now)) keys.now)).visits most }
-{
-    match one_argument(args, keys) {
-        Ok(v) => visits_text(arena, consts, v, false, most),
+        Ok(v) => visits_text(arena, consts, v, raw, most),
         Err(_) => 0,
     }
 }

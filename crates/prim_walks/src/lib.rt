@@ -35,7 +35,7 @@ pub use arena_objects::{
 pub use containing::{contains, visits_contains};
 pub use equality::{equal, visits_equal};
 pub use look::{Look, look_at};
-pub use names::builtin_name;
+pub use names::{builtin_name, global_builtins};
 pub use ones::is_one;
 pub use orders::{Unordered, order, visits_order};
 pub use parts::TextPart;

@@ -2,8 +2,59 @@
 
 ghost use Rattle.std.specs.Prelude.{◌≡◌};
 ghost use Rattle.py_primitives.specs.py_values.Names.{builtin_name as name_of};
+ghost use Rattle.py_primitives.specs.Builtins.{globals};
 
-use py_primitives::Builtin;
+use py_primitives::{Builtin, Kind};
+
+/// What names can mean that no namespace has, as `global_builtins` gives it.
+const GLOBALS: [Builtin; 39] = [
+    Builtin::Bool,
+    Builtin::Int,
+    Builtin::Str,
+    Builtin::List,
+    Builtin::Tuple,
+    Builtin::Dict,
+    Builtin::Print,
+    Builtin::Len,
+    Builtin::Abs,
+    Builtin::Range,
+    Builtin::Min,
+    Builtin::Max,
+    Builtin::Repr,
+    Builtin::Ord,
+    Builtin::Chr,
+    Builtin::IsInstance,
+    Builtin::Kind(Kind::BaseException),
+    Builtin::Kind(Kind::SystemExit),
+    Builtin::Kind(Kind::KeyboardInterrupt),
+    Builtin::Kind(Kind::Exception),
+    Builtin::Kind(Kind::ArithmeticError),
+    Builtin::Kind(Kind::OverflowError),
+    Builtin::Kind(Kind::ZeroDivisionError),
+    Builtin::Kind(Kind::AssertionError),
+    Builtin::Kind(Kind::AttributeError),
+    Builtin::Kind(Kind::EofError),
+    Builtin::Kind(Kind::ImportError),
+    Builtin::Kind(Kind::LookupError),
+    Builtin::Kind(Kind::IndexError),
+    Builtin::Kind(Kind::KeyError),
+    Builtin::Kind(Kind::MemoryError),
+    Builtin::Kind(Kind::NameError),
+    Builtin::Kind(Kind::OsError),
+    Builtin::Kind(Kind::RuntimeError),
+    Builtin::Kind(Kind::NotImplementedError),
+    Builtin::Kind(Kind::StopIteration),
+    Builtin::Kind(Kind::SyntaxError),
+    Builtin::Kind(Kind::TypeError),
+    Builtin::Kind(Kind::ValueError),
+];
+
+/// What names can mean that no namespace has, in the order in which a name is looked for.
+pub fn global_builtins() -> &'static [Builtin]
+    ensures { result.now ≡ globals }
+{
+    &GLOBALS
+}
 
 /// The name that a built-in alone has: that of a method or of a call of `port` stands behind its type or `port`.
 pub fn builtin_name(b: Builtin) -> &'static str

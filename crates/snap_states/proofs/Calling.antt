@@ -1,5 +1,5 @@
 -- Built-ins and kinds of exceptions by their names: no two have one.
-use Rattle.std.proofs.Common.{◌≡◌, ℕ, ◌++◌, Bool, true, false, List, [], ◌∷◌, Some, refl, sym, ap, ◌∙◌, if◌then◌else◌}
+use Rattle.std.proofs.Common.{◌≡◌, ℕ, ◌++◌, Bool, true, false, List, [], ◌∷◌, None, Some, refl, sym, ap, ◌∙◌, if◌then◌else◌}
 use Rattle.std.proofs.lemmas.Slice.Eq.{bytes_eq-Decides}
 use Rattle.std.specs.Prelude.{bytes_eq}
 use Rattle.mpy_base.specs.declared.builtin.Builtin.{Builtin}
@@ -21,6 +21,25 @@ module _ {A : Type 0} (name_in : A → List ℕ) (text : List ℕ) where
   pub called_so : (xs : List A) (y : A) → called name_in text xs ≡ Some y → name_in y ≡ text
   called_so [] y e = absurd cc
   called_so (x ∷ xs) y e = called_by x xs (bytes_eq (name_in x) text) (λ t. (bytes_eq-Decides (name_in x) text).0 t) (called_so xs) y e
+
+  -- what is found in front is found in the whole; where nothing is found there, what follows says it
+  first_by : (x : A) (xs ys : List A) (b : Bool) (y : A) → (called name_in text xs ≡ Some y → called name_in text (xs ++ ys) ≡ Some y)
+      → (if b then Some x else called name_in text xs) ≡ Some y → (if b then Some x else called name_in text (xs ++ ys)) ≡ Some y
+  first_by x xs ys true y rest e = e
+  first_by x xs ys false y rest e = rest e
+
+  pub called_first : (xs ys : List A) (y : A) → called name_in text xs ≡ Some y → called name_in text (xs ++ ys) ≡ Some y
+  called_first [] ys y e = absurd cc
+  called_first (x ∷ xs) ys y e = first_by x xs ys (bytes_eq (name_in x) text) y (called_first xs ys y) e
+
+  last_by : (x : A) (xs ys : List A) (b : Bool) → (called name_in text xs ≡ None → called name_in text (xs ++ ys) ≡ called name_in text ys)
+      → (if b then Some x else called name_in text xs) ≡ None → (if b then Some x else called name_in text (xs ++ ys)) ≡ called name_in text ys
+  last_by x xs ys true rest e = absurd cc
+  last_by x xs ys false rest e = rest e
+
+  pub called_last : (xs ys : List A) → called name_in text xs ≡ None → called name_in text (xs ++ ys) ≡ called name_in text ys
+  called_last [] ys e = refl
+  called_last (x ∷ xs) ys e = last_by x xs ys (bytes_eq (name_in x) text) (called_last xs ys) e
 
 -- each is found by its name
 pub kind_found : (kind : Kind) → kind_called (kind_name kind) ≡ Some kind

@@ -1,9 +1,9 @@
 //! Built-ins, kinds of exceptions and texts by their names.
 
-ghost use Rattle.std.specs.Prelude.{◌≡◌, ◌↔◌, ◌++◌, Some, IsTrue};
+ghost use Rattle.std.specs.Prelude.{◌≡◌, ◌↔◌, Some, IsTrue};
 ghost use Rattle.prim_walks.specs.py_values.Names.{builtin_name as name_of_builtin};
 ghost use Rattle.mpy_base.specs.Kind.{kind_name};
-ghost use Rattle.prim_walks.specs.py_primitives.Builtins.{all_kinds, globals};
+ghost use Rattle.prim_walks.specs.py_primitives.Builtins.{all_kinds};
 ghost use Rattle.snap_states.specs.Decoded.{called, others, builtin_called as builtin_of_name, kind_called as kind_of_name};
 ghost use Rattle.bc_library.specs.Texts.{text_numbered};
 ghost use Rattle.snap_states.specs.States.{IsName};
@@ -11,49 +11,10 @@ ghost use Rattle.snap_states.specs.States.{IsName};
 use arena_heap::{Constants, StrNo};
 use bc_library::Library;
 use mpy_base::{Builtin, Kind};
-use prim_walks::builtin_name;
+use prim_walks::{builtin_name, global_builtins};
 
-/// All built-ins.
-const BUILTINS: [Builtin; 56] = [
-    Builtin::Bool,
-    Builtin::Int,
-    Builtin::Str,
-    Builtin::List,
-    Builtin::Tuple,
-    Builtin::Dict,
-    Builtin::Print,
-    Builtin::Len,
-    Builtin::Abs,
-    Builtin::Range,
-    Builtin::Min,
-    Builtin::Max,
-    Builtin::Repr,
-    Builtin::Ord,
-    Builtin::Chr,
-    Builtin::IsInstance,
-    Builtin::Kind(Kind::BaseException),
-    Builtin::Kind(Kind::SystemExit),
-    Builtin::Kind(Kind::KeyboardInterrupt),
-    Builtin::Kind(Kind::Exception),
-    Builtin::Kind(Kind::ArithmeticError),
-    Builtin::Kind(Kind::OverflowError),
-    Builtin::Kind(Kind::ZeroDivisionError),
-    Builtin::Kind(Kind::AssertionError),
-    Builtin::Kind(Kind::AttributeError),
-    Builtin::Kind(Kind::EofError),
-    Builtin::Kind(Kind::ImportError),
-    Builtin::Kind(Kind::LookupError),
-    Builtin::Kind(Kind::IndexError),
-    Builtin::Kind(Kind::KeyError),
-    Builtin::Kind(Kind::MemoryError),
-    Builtin::Kind(Kind::NameError),
-    Builtin::Kind(Kind::OsError),
-    Builtin::Kind(Kind::RuntimeError),
-    Builtin::Kind(Kind::NotImplementedError),
-    Builtin::Kind(Kind::StopIteration),
-    Builtin::Kind(Kind::SyntaxError),
-    Builtin::Kind(Kind::TypeError),
-    Builtin::Kind(Kind::ValueError),
+/// The built-ins that no name alone leads to.
+const OTHERS: [Builtin; 17] = [
     Builtin::Port,
     Builtin::PortPut,
     Builtin::PortGet,
@@ -100,10 +61,10 @@ const KINDS: [Kind; 23] = [
     Kind::ValueError,
 ];
 
-fn builtins() -> &'static [Builtin]
-    ensures { result.now ≡ globals ++ others }
+fn other_builtins() -> &'static [Builtin]
+    ensures { result.now ≡ others }
 {
-    &BUILTINS
+    &OTHERS
 }
 
 fn kinds() -> &'static [Kind]
@@ -140,7 +101,10 @@ fn first_kind(kinds: &[Kind], name: &[u8]) -> Option<Kind>
 pub fn builtin_called(name: &[u8]) -> Option<Builtin>
     ensures { result ≡ builtin_of_name name.now }
 {
-    first_builtin(builtins(), name)
+    match first_builtin(global_builtins(), name) {
+        Some(b) => Some(b),
+        None => first_builtin(other_builtins(), name),
+    }
 }
 
 /// The kind of exceptions of a name.

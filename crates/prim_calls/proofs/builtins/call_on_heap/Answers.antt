@@ -25,7 +25,7 @@ returns-in-Str g c =
     let texts = g.C.Constants.text_of c.args.consts.now in
     let tuples = g.C.Constants.items_of c.args.consts.now in
     let h = c.args.arena.now in
-    subst (λ (b : Builtin). IsOutcome texts tuples h c.call_str.new.arena c.call_str.result (call (plain_heap texts tuples h) b (map (plain texts tuples) c.args.args.now) (map (plain_pair texts tuples) c.args.keys.now))) (sym c.in-Str.is) c.call_str.ensures
+    subst (λ (b : Builtin). IsOutcome texts tuples h c.call_shown.new.arena c.call_shown.result (call (plain_heap texts tuples h) b (map (plain texts tuples) c.args.args.now) (map (plain_pair texts tuples) c.args.keys.now))) (sym c.in-Str.is) c.call_shown.ensures
 
 pub returns-in-List : goal.returns-in-List
 returns-in-List g c =
@@ -88,7 +88,7 @@ returns-in-Repr g c =
     let texts = g.C.Constants.text_of c.args.consts.now in
     let tuples = g.C.Constants.items_of c.args.consts.now in
     let h = c.args.arena.now in
-    subst (λ (b : Builtin). IsOutcome texts tuples h c.call_repr.new.arena c.call_repr.result (call (plain_heap texts tuples h) b (map (plain texts tuples) c.args.args.now) (map (plain_pair texts tuples) c.args.keys.now))) (sym c.in-Repr.is) c.call_repr.ensures
+    subst (λ (b : Builtin). IsOutcome texts tuples h c.call_shown-in-Repr.new.arena c.call_shown-in-Repr.result (call (plain_heap texts tuples h) b (map (plain texts tuples) c.args.args.now) (map (plain_pair texts tuples) c.args.keys.now))) (sym c.in-Repr.is) c.call_shown-in-Repr.ensures
 
 pub returns-in-Ord : goal.returns-in-Ord
 returns-in-Ord g c =

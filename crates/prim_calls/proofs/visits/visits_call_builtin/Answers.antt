@@ -24,7 +24,7 @@ returns-in-Str g c w =
     let tuples = g.C.Constants.items_of c.args.consts.now in
     let args = map (plain texts tuples) c.args.args.now in
     let keys = map (plain_pair texts tuples) c.args.keys.now in
-    subst (λ (b : Builtin). c.visits_call_str.result ≡ min (call_builtin (world_over texts tuples w c.args.arena.now) b args keys).visits c.args.most) (sym c.in-Str.is) c.visits_call_str.ensures
+    subst (λ (b : Builtin). c.visits_call_shown.result ≡ min (call_builtin (world_over texts tuples w c.args.arena.now) b args keys).visits c.args.most) (sym c.in-Str.is) c.visits_call_shown.ensures
 
 pub returns-in-Repr : goal.returns-in-Repr
 returns-in-Repr g c w =
@@ -32,7 +32,7 @@ returns-in-Repr g c w =
     let tuples = g.C.Constants.items_of c.args.consts.now in
     let args = map (plain texts tuples) c.args.args.now in
     let keys = map (plain_pair texts tuples) c.args.keys.now in
-    subst (λ (b : Builtin). c.visits_call_repr.result ≡ min (call_builtin (world_over texts tuples w c.args.arena.now) b args keys).visits c.args.most) (sym c.in-Repr.is) c.visits_call_repr.ensures
+    subst (λ (b : Builtin). c.visits_call_shown-in-Repr.result ≡ min (call_builtin (world_over texts tuples w c.args.arena.now) b args keys).visits c.args.most) (sym c.in-Repr.is) c.visits_call_shown-in-Repr.ensures
 
 pub returns-in-List : goal.returns-in-List
 returns-in-List g c w =
