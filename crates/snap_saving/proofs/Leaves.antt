@@ -43,6 +43,9 @@ number_some n = elim (cases_lt n (2 ^ 31)) [
 ]
 
 -- signed numbers
+pub passed : (z : ℤ) → SFits w32 z → to_z w32 (of_z w32 z) ≡ z
+passed z f = omega (arith, ints)
+
 low : (z : ℤ) → SFits w32 z → int_lt (to_z w32 (of_z w32 z)) (neg_ℤ (pos (2 ^ 30))) ≡ true → z <ℤ neg_ℤ (pos (2 ^ 30))
 low z f h = grind (arith, ints)
 

@@ -2,7 +2,6 @@
 
 ghost use Rattle.std.specs.Prelude.{◌≡◌, ◌+◌, ◌<◌, ◌≤◌, ◌^◌, ◌∷◌, ◌++◌, [], length, OnOk};
 ghost use Rattle.std.specs.Bool.{OnTrue, OnFalse};
-ghost use Rattle.bc_ops.specs.Signed.{IsSmall};
 ghost use Rattle.snap_saving.specs.Put.{integer, left, number, overlong, text, zeros};
 ghost use Rattle.snap_saving.specs.Saved.{IsLong};
 
@@ -12,10 +11,10 @@ use mpy_base::{NoMemory, write_vuint};
 /// As many bytes as a snapshot may have.
 const MOST_BYTES: usize = 4_194_304;
 
-/// The least small number.
+/// The least signed number that has a spelling.
 const LEAST: i32 = -1_073_741_824;
 
-/// The greatest small number.
+/// The greatest signed number that has one.
 const GREATEST: i32 = 1_073_741_823;
 
 /// One byte.
@@ -37,7 +36,7 @@ fn put_zeros(out: &mut Vec<u8>, count: usize) -> Result<(), NoMemory>
     Ok(())
 }
 
-/// What has no spelling: more bytes than a snapshot may have.
+/// What has no spelling is put as more bytes than a snapshot may have: so the state has none, and no call needs a fault for it.
 #[tactic(auto, unfolding(crate::specs::Put::overlong))]
 fn put_overlong(out: &mut Vec<u8>) -> Result<(), NoMemory>
     ensures { OnOk result (out.new.items ≡ out.old.items ++ overlong) }
@@ -57,27 +56,14 @@ pub(crate) fn put_number(out: &mut Vec<u8>, n: u32) -> Result<(), NoMemory>
     }
 }
 
-/// Whether a number is one from -2^30 to 2^30 - 1.
-fn is_small(z: i32) -> bool
-    ensures yes { OnTrue result (IsSmall z) }
-    ensures no { OnFalse result (IsSmall z → ⊥) }
-{
-    if z < LEAST || z > GREATEST {
-        return false;
-    }
-    true
-}
-
-/// A signed number: only a small one has a spelling.
-#[tactic(auto, using(crate::proofs::Leaves::small_integer, crate::proofs::Leaves::no_integer))]
+/// A signed number: only one from -2^30 to 2^30 - 1 has a spelling.
 pub(crate) fn put_integer(out: &mut Vec<u8>, z: i32) -> Result<(), NoMemory>
     ensures { OnOk result (out.new.items ≡ out.old.items ++ integer z) }
 {
-    if is_small(z) {
-        write_signed(out, z)
-    } else {
-        put_overlong(out)
+    if z < LEAST || z > GREATEST {
+        return put_overlong(out);
     }
+    write_signed(out, z)
 }
 
 /// A tag, and a signed number.
@@ -88,7 +74,7 @@ pub(crate) fn put_tagged(out: &mut Vec<u8>, tag: u8, z: i32) -> Result<(), NoMem
     put_integer(out, z)
 }
 
-/// How many slots of an iterator are left, whose topmost is this one, counted from 0: no more than three have a spelling.
+/// How many slots of an iterator are left, whose topmost is this one, counted from 0: more than three have no spelling.
 #[tactic(auto, using(crate::proofs::Leaves::few_left, crate::proofs::Leaves::many_left))]
 pub(crate) fn put_left(out: &mut Vec<u8>, part: u8) -> Result<(), NoMemory>
     ensures { OnOk result (out.new.items ≡ out.old.items ++ left (part + 1)) }
