@@ -23,11 +23,13 @@ pub record HasNames (shelf : Shelf) : Type 0 where
 
 -- each text of a module's table has a number
 pub record HasTexts (shelf : Shelf) : Type 0 where
-  pub texts : (i qstr : ℕ) (text : List ℕ) → table_text shelf i qstr ≡ Some text → (n : ℕ) × (text_numbered shelf.pool n ≡ Some text)
+  pub texts : (i qstr : ℕ) (text : List ℕ) → table_text shelf i qstr ≡ Some text
+      → (n : ℕ) × (text_numbered shelf.pool n ≡ Some text)
 
 -- each code of the library has a row
 pub record HasCodeRows (shelf : Shelf) : Type 0 where
-  pub rows : (m code : ℕ) (placed : Placed) → code_numbered shelf m code ≡ Some placed → (row : Row) × IsRow shelf m code row
+  pub rows : (m code : ℕ) (placed : Placed) → code_numbered shelf m code ≡ Some placed
+      → (row : Row) × IsRow shelf m code row
 
 -- what each library keeps that has rows
 pub record IsTabled (shelf : Shelf) : Type 0 where

@@ -42,18 +42,22 @@ ResumesAs p vm other =
     (first : State) (n m : ℕ) (w : PlainWorld) (front : List ℕ) → machine_of p vm (behind front w) ≡ steps p.library n first
     → IsRestOf front (run_of (steps p.library (n + m) first)) (run_of (steps p.library m (machine_of p other w)))
 
--- in each program of the library the run of the module for `n` steps stands with the machine in a world that it has come to
-pub record RunsTo (shelf : Shelf) (main : Name) (cells bytes : ℕ) (ports : List PortState) (n : ℕ) (vm : Vm) : Type 0 where
-  pub stands : (p : Program) → IsProgramOf shelf p
-      → (world : PlainWorld) × (steps p.library n (start p.library main (new_world cells bytes ports)) ≡ machine_of p vm world)
+-- in each program of the library the run of the module for `n` steps stands with the machine in a world that it has come
+-- to
+pub record RunsTo (shelf : Shelf) (main : Name) (cells bytes : ℕ) (ports : List PortState) (n : ℕ)
+    (vm : Vm) : Type 0 where
+  pub stands : (p : Program) → IsProgramOf shelf p → (world : PlainWorld)
+      × (steps p.library n (start p.library main (new_world cells bytes ports)) ≡ machine_of p vm world)
 
 -- the world where nothing was printed
 abbrev pub silent : PlainWorld → PlainWorld
 silent w = record w { output = [] }
 
--- where the run of `n` steps stands with the first machine in a world, `m` steps of the second one over that world's ports are the rest
--- of the run of `n + m` steps
+-- where the run of `n` steps stands with the first machine in a world, `m` steps of the second one over that world's
+-- ports are the rest of the run of `n + m` steps
 abbrev pub GoesOnAs : Program → Name → (cells bytes : ℕ) → List PortState → ℕ → (vm other : Vm) → Type 0
 GoesOnAs p main cells bytes ports n vm other =
-    (world : PlainWorld) → steps p.library n (start p.library main (new_world cells bytes ports)) ≡ machine_of p vm world
-    → (m : ℕ) → IsRestOf world.output (run p.library main cells bytes ports (n + m)) (run_of (steps p.library m (machine_of p other (silent world))))
+    (world : PlainWorld)
+    → steps p.library n (start p.library main (new_world cells bytes ports)) ≡ machine_of p vm world
+    → (m : ℕ) → IsRestOf world.output (run p.library main cells bytes ports (n + m))
+    (run_of (steps p.library m (machine_of p other (silent world))))

@@ -42,7 +42,8 @@ pub record IsHeld (vm : Vm) : Type 0 where
   pub cells : used vm.arena ≤ vm.arena.cell_size
   pub bytes : vm.arena.bytes ≤ vm.arena.byte_size
 
--- the machine's room is within its limits, and what is used within the room; it has no more calls, and no more is paid, than may be
+-- the machine's room is within its limits, and what is used within the room; it has no more calls, and no more is
+-- paid, than may be
 pub record IsWithin (vm : Vm) : Type 0 where
   pub cells : used vm.arena ≤ vm.arena.cell_size
   pub bytes : vm.arena.bytes ≤ vm.arena.byte_size

@@ -10,9 +10,10 @@ use Rattle.snap_grammar.specs.Spelling.{Fits, spelling}
 use Rattle.snap_loading.specs.Resumed.{RunsTo}
 use Rattle.snap_loading.specs.Saved.{IsHeld, snapshot_in}
 
--- the run of a main module stands behind so many steps with the machine and goes on, its room and its calls are no more than may be,
--- and the bytes spell the machine's snapshot
-pub record IsSuspended (shelf : Shelf) (main : Name) (cells bytes : ℕ) (ports : List PortState) (n : ℕ) (snap : List ℕ) (vm : Vm) : Type 0 where
+-- the run of a main module stands behind so many steps with the machine and goes on, its room and its calls are no more
+-- than may be, and the bytes spell the machine's snapshot
+pub record IsSuspended (shelf : Shelf) (main : Name) (cells bytes : ℕ) (ports : List PortState) (n : ℕ)
+    (snap : List ℕ) (vm : Vm) : Type 0 where
   pub is_vm : IsVm shelf vm
   pub goes_on : vm.end ≡ None
   pub runs : RunsTo shelf main cells bytes ports n vm

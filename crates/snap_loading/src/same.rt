@@ -40,10 +40,12 @@ pub fn states_same_law()
     constants_law();
 }
 
-/// A machine that is what the snapshot of another one stands for is in that one's state, but for the numbers of objects.
+/// A machine that is what the snapshot of another one stands for is in that one's state, but for the numbers of
+/// objects.
 pub fn loaded_law()
     ensures { (shelf : Shelf) (vm other : Vm) (s : Snapshot) → IsTabled shelf → HasNames shelf → IsVm shelf vm
-        → IsSaved shelf vm → BeginsFirst vm → snapshot_in shelf vm ≡ s → StandsFor shelf s other → AreSame shelf vm other }
+        → IsSaved shelf vm → BeginsFirst vm → snapshot_in shelf vm ≡ s → StandsFor shelf s other
+        → AreSame shelf vm other }
 {
     program_law();
     code_law();

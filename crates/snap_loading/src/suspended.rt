@@ -30,27 +30,28 @@ use snap_kept::{constants_law, entries_law, values_law};
 use snap_laws::{bytes_law, filled_law, frames_law, paid_law, rooms_law, waits_law};
 use vm_starting::{code_law, program_law};
 
-/// Where a run stands with its machine and goes on, the first object of the machine lies at the first cell, and its room
-/// is the one that the run was given.
+/// Where a run stands with its machine and goes on, the first object of the machine lies at the first cell, and its
+/// room is the one that the run was given.
 pub fn first_law()
-    ensures first { (shelf : Shelf) (main : Name) (cells bytes : ℕ) (ports : List PortState) (n : ℕ) (vm : Vm) (p : Program)
-        → IsVm shelf vm → vm.end ≡ None → RunsTo shelf main cells bytes ports n vm → IsProgramOf shelf p → BeginsFirst vm }
-    ensures cells { (shelf : Shelf) (main : Name) (cells bytes : ℕ) (ports : List PortState) (n : ℕ) (vm : Vm) (p : Program)
-        → IsVm shelf vm → vm.end ≡ None → RunsTo shelf main cells bytes ports n vm → IsProgramOf shelf p
-        → vm.arena.cell_size ≡ cells }
-    ensures bytes { (shelf : Shelf) (main : Name) (cells bytes : ℕ) (ports : List PortState) (n : ℕ) (vm : Vm) (p : Program)
-        → IsVm shelf vm → vm.end ≡ None → RunsTo shelf main cells bytes ports n vm → IsProgramOf shelf p
-        → vm.arena.byte_size ≡ bytes }
+    ensures first { (shelf : Shelf) (main : Name) (cells bytes : ℕ) (ports : List PortState) (n : ℕ)
+        (vm : Vm) (p : Program) → IsVm shelf vm → vm.end ≡ None → RunsTo shelf main cells bytes ports n vm
+        → IsProgramOf shelf p → BeginsFirst vm }
+    ensures cells { (shelf : Shelf) (main : Name) (cells bytes : ℕ) (ports : List PortState) (n : ℕ)
+        (vm : Vm) (p : Program) → IsVm shelf vm → vm.end ≡ None → RunsTo shelf main cells bytes ports n vm
+        → IsProgramOf shelf p → vm.arena.cell_size ≡ cells }
+    ensures bytes { (shelf : Shelf) (main : Name) (cells bytes : ℕ) (ports : List PortState) (n : ℕ)
+        (vm : Vm) (p : Program) → IsVm shelf vm → vm.end ≡ None → RunsTo shelf main cells bytes ports n vm
+        → IsProgramOf shelf p → vm.arena.byte_size ≡ bytes }
 {
     sound_law();
 }
 
-/// Where a run stands with its machine and goes on, the machine that its snapshot stands for goes on as the run would: `m`
-/// steps of it, over the ports as they were left, are the rest of a run of so many steps more.
+/// Where a run stands with its machine and goes on, the machine that its snapshot stands for goes on as the run would:
+/// `m` steps of it, over the ports as they were left, are the rest of a run of so many steps more.
 pub fn goes_on_law()
-    ensures { (shelf : Shelf) (main : Name) (cells bytes : ℕ) (ports : List PortState) (n : ℕ) (vm other : Vm) (s : Snapshot)
-        → IsTabled shelf → HasNames shelf → IsVm shelf vm → IsSaved shelf vm → RunsTo shelf main cells bytes ports n vm
-        → snapshot_in shelf vm ≡ s → StandsFor shelf s other
+    ensures { (shelf : Shelf) (main : Name) (cells bytes : ℕ) (ports : List PortState) (n : ℕ)
+        (vm other : Vm) (s : Snapshot) → IsTabled shelf → HasNames shelf → IsVm shelf vm → IsSaved shelf vm
+        → RunsTo shelf main cells bytes ports n vm → snapshot_in shelf vm ≡ s → StandsFor shelf s other
         → (p : Program) → IsProgramOf shelf p → GoesOnAs p main cells bytes ports n vm other }
 {
     first_law();
@@ -60,8 +61,9 @@ pub fn goes_on_law()
 
 /// Where a run stands with its machine and goes on, the machine keeps what each state of a run does.
 pub fn suspended_law()
-    ensures { (shelf : Shelf) (main : Name) (cells bytes : ℕ) (ports : List PortState) (n : ℕ) (vm : Vm) → IsVm shelf vm
-        → vm.end ≡ None → IsWithin vm → RunsTo shelf main cells bytes ports n vm → IsSaved shelf vm }
+    ensures { (shelf : Shelf) (main : Name) (cells bytes : ℕ) (ports : List PortState) (n : ℕ)
+        (vm : Vm) → IsVm shelf vm → vm.end ≡ None → IsWithin vm → RunsTo shelf main cells bytes ports n vm
+        → IsSaved shelf vm }
 {
     sound_law();
     files_law();
@@ -110,23 +112,23 @@ pub fn state_law()
 
 /// A suspended run keeps what each state of a run does, and its first object lies at the first cell.
 pub fn kept_law()
-    ensures saved { (shelf : Shelf) (main : Name) (cells bytes : ℕ) (ports : List PortState) (n : ℕ) (snap : List ℕ) (vm : Vm)
-        → IsSuspended shelf main cells bytes ports n snap vm → IsSaved shelf vm }
-    ensures first { (shelf : Shelf) (main : Name) (cells bytes : ℕ) (ports : List PortState) (n : ℕ) (snap : List ℕ) (vm : Vm)
-        → IsSuspended shelf main cells bytes ports n snap vm → BeginsFirst vm }
+    ensures saved { (shelf : Shelf) (main : Name) (cells bytes : ℕ) (ports : List PortState) (n : ℕ)
+        (snap : List ℕ) (vm : Vm) → IsSuspended shelf main cells bytes ports n snap vm → IsSaved shelf vm }
+    ensures first { (shelf : Shelf) (main : Name) (cells bytes : ℕ) (ports : List PortState) (n : ℕ)
+        (snap : List ℕ) (vm : Vm) → IsSuspended shelf main cells bytes ports n snap vm → BeginsFirst vm }
 {
     program_law();
     first_law();
     suspended_law();
 }
 
-/// The bytes of a suspended run begin as a snapshot does, and each snapshot that they spell is a state of the library: so
-/// `load` refuses none.
+/// The bytes of a suspended run begin as a snapshot does, and each snapshot that they spell is a state of the library:
+/// so `load` refuses none.
 pub fn loads_law()
-    ensures header { (shelf : Shelf) (main : Name) (cells bytes : ℕ) (ports : List PortState) (n : ℕ) (snap : List ℕ) (vm : Vm)
-        → IsSuspended shelf main cells bytes ports n snap vm → BeginsSo snap }
-    ensures state { (shelf : Shelf) (main : Name) (cells bytes : ℕ) (ports : List PortState) (n : ℕ) (snap : List ℕ) (vm : Vm)
-        → IsTabled shelf → HasNames shelf → IsSuspended shelf main cells bytes ports n snap vm
+    ensures header { (shelf : Shelf) (main : Name) (cells bytes : ℕ) (ports : List PortState) (n : ℕ)
+        (snap : List ℕ) (vm : Vm) → IsSuspended shelf main cells bytes ports n snap vm → BeginsSo snap }
+    ensures state { (shelf : Shelf) (main : Name) (cells bytes : ℕ) (ports : List PortState) (n : ℕ)
+        (snap : List ℕ) (vm : Vm) → IsTabled shelf → HasNames shelf → IsSuspended shelf main cells bytes ports n snap vm
         → (s : Snapshot) → Fits s → snap ≡ spelling s → IsStateOf shelf s }
 {
     kept_law();
@@ -136,8 +138,9 @@ pub fn loads_law()
 
 /// The machine that is loaded of the bytes of a suspended run goes on as the run would.
 pub fn continues_law()
-    ensures { (shelf : Shelf) (main : Name) (cells bytes : ℕ) (ports : List PortState) (n : ℕ) (snap : List ℕ) (vm other : Vm)
-        → IsTabled shelf → HasNames shelf → IsSuspended shelf main cells bytes ports n snap vm → IsLoaded shelf snap other
+    ensures { (shelf : Shelf) (main : Name) (cells bytes : ℕ) (ports : List PortState) (n : ℕ)
+        (snap : List ℕ) (vm other : Vm) → IsTabled shelf → HasNames shelf
+        → IsSuspended shelf main cells bytes ports n snap vm → IsLoaded shelf snap other
         → (p : Program) → IsProgramOf shelf p → GoesOnAs p main cells bytes ports n vm other }
 {
     kept_law();
