@@ -28,9 +28,10 @@ use Rattle.meant_commands.specs.Meant.{end_status, end_text}
 abbrev pub Shelves : Type 1
 Shelves = Option FileOf → (name : List ℕ) → Result Shelf Ending → Type 0
 
--- The file under the other name is the snapshot of a suspended run of the program: each library that is loaded of the file under the name has
--- the program's units, and the bytes are a snapshot of the run of its main module.
-pub record HoldsSuspended (Comes : Shelves) (files : Option FileOf) (name snap : List ℕ) (program : Program) (front : Front) : Type 0 where
+-- The file under the other name is the snapshot of a suspended run of the program: each library that is loaded of the
+-- file under the name has the program's units, and the bytes are a snapshot of the run of its main module.
+pub record HoldsSuspended (Comes : Shelves) (files : Option FileOf) (name snap : List ℕ) (program : Program)
+    (front : Front) : Type 0 where
   pub file : FileOf
   pub told : files ≡ Some file
   pub bytes : List ℕ
@@ -44,9 +45,10 @@ module _ (program : Program) (front : Front) (steps : ℕ) (old new : Outside) (
   abbrev pub MeansSteps : (steps : ℕ) → Run → Type 0
   MeansSteps count run = MeansRun program front.room.cells front.room.bytes front.ports count run
 
-  -- There is one run of all the steps that ends as the program means, or is stopped by its steps on the way (`MeansRun`): what was printed before
-  -- the suspension and what was printed now are together its output, the status says how it ended, the ports tell its ports, and its
-  -- report, the numbers of its MemoryError or those of the steps that were ordered now were said.
+  -- There is one run of all the steps that ends as the program means, or is stopped by its steps on the way
+  -- (`MeansRun`): what was printed before the suspension and what was printed now are together its output, the status
+  -- says how it ended, the ports tell its ports, and its report, the numbers of its MemoryError or those of the steps
+  -- that were ordered now were said.
   pub record EndsTogether (status : ℕ) : Type 0 where
     pub run : Run
     pub means : MeansSteps (front.steps + steps) run
@@ -57,8 +59,9 @@ module _ (program : Program) (front : Front) (steps : ℕ) (old new : Outside) (
     pub told : Tell ports_new run.world.ports
     pub says : Says old.say new.say old.say_faults new.say_faults (end_text steps run.world.heap run.end)
 
-  -- The sink of the output failed, or the state wasn't written: what was printed before the suspension and now begins the output of such a run,
-  -- and what the program prints within some bound of turns. The ports tell those of such a run for these steps, or for fewer.
+  -- The sink of the output failed, or the state wasn't written: what was printed before the suspension and now begins
+  -- the output of such a run, and what the program prints within some bound of turns. The ports tell those of such a
+  -- run for these steps, or for fewer.
   pub record BeginsTogether : Type 0 where
     pub run : Run
     pub means : MeansSteps (front.steps + steps) run
@@ -66,29 +69,32 @@ module _ (program : Program) (front : Front) (steps : ℕ) (old new : Outside) (
     pub prints : Appends old.out new.out rest
     pub begins : Starts (front.printed ++ rest) run.world.output
     pub bound : ℕ
-    pub begins_meant : Starts (front.printed ++ rest) (meaning program front.room.cells front.room.bytes front.ports bound).world.output
+    pub begins_meant : Starts (front.printed ++ rest)
+        (meaning program front.room.cells front.room.bytes front.ports bound).world.output
     pub taken : ℕ
     pub within : taken ≤ front.steps + steps
     pub earlier : Run
     pub earlier_means : MeansSteps taken earlier
     pub told : Tell ports_new earlier.world.ports
 
-  -- the two parts do together as the program means, and stop earlier only at the last step, or where the sink of the output, or a write, failed
+  -- the two parts do together as the program means, and stop earlier only at the last step, or where the sink of the
+  -- output, or a write, failed
   pub record DoTogether (status : ℕ) : Type 0 where
     pub ended : IsRunStatus status → EndsTogether status
     pub cut_short : status ≡ 8 → BeginsTogether
 
--- Going on from the snapshot of a suspended run, in the library of the file under the name, does with that run as its program means: where the
--- sink of the output tells what it has, and the ports what the run left, and each port its faults. No such snapshot is refused: with
--- status 4 the library isn't loaded.
-pub record MeansTogether (Comes : Shelves) (steps : ℕ) (name : List ℕ) (program : Program) (front : Front) (old new : Outside)
-    (ports_old ports_new : List PortView) (status : ℕ) : Type 0 where
+-- Going on from the snapshot of a suspended run, in the library of the file under the name, does with that run as its
+-- program means: where the sink of the output tells what it has, and the ports what the run left, and each port its
+-- faults. No such snapshot is refused: with status 4 the library isn't loaded.
+pub record MeansTogether (Comes : Shelves) (steps : ℕ) (name : List ℕ) (program : Program) (front : Front)
+    (old new : Outside) (ports_old ports_new : List PortView) (status : ℕ) : Type 0 where
   pub accepted : status ≡ 4 → (ending : Ending) × Comes old.files name (Err ending) × (status ≡ status_of ending)
-  pub together : (before : List ℕ) → Tell ports_old front.left → AreAccounted ports_old ports_new → old.out ≡ Some before
-      → DoTogether program front steps old new ports_new status
+  pub together : (before : List ℕ) → Tell ports_old front.left → AreAccounted ports_old ports_new
+      → old.out ≡ Some before → DoTogether program front steps old new ports_new status
 
 -- a run that goes on from the snapshot under the other name does so for each suspended run whose snapshot that is
-abbrev pub ResumeMeans : Shelves → (steps : ℕ) → (name snap : List ℕ) → (old new : Outside) → (ports_old ports_new : List PortView) → (status : ℕ) → Type 0
+abbrev pub ResumeMeans : Shelves → (steps : ℕ) → (name snap : List ℕ) → (old new : Outside)
+    → (ports_old ports_new : List PortView) → (status : ℕ) → Type 0
 ResumeMeans Comes steps name snap old new ports_old ports_new status = (program : Program) (front : Front)
     → HoldsSuspended Comes old.files name snap program front
     → MeansTogether Comes steps name program front old new ports_old ports_new status
@@ -96,17 +102,21 @@ ResumeMeans Comes steps name snap old new ports_old ports_new status = (program 
 -- a run and its parts
 -- ===================
 
--- the library of the file under the name is the same, with the files as they are now, as a run of it had, and names no module by the empty text
+-- the library of the file under the name is the same, with the files as they are now, as a run of it had, and names no
+-- module by the empty text
 abbrev pub IsSameLibrary : (below : Shelf) → (main : List ℕ) → (files now : Option FileOf) → (name : List ℕ) → Type 0
 IsSameLibrary below main files now name = (ready : Ready) (shelf : Shelf) → RunLibrary below main files name (Ok ready)
     → ResumeLibrary below now name (Ok shelf) → (shelf ≡ ready.library) × AreNamed shelf
 
--- A run with these ports was suspended as this front of the program's run, and what went on from there did with it as the program means.
-pub record MeansInParts (Comes : Shelves) (room : Room) (steps more : ℕ) (name : List ℕ) (program : Program) (ports : List PortState)
-    (old left from new : Outside) (ports_left ports_from ports_new : List PortView) (status : ℕ) : Type 0 where
+-- A run with these ports was suspended as this front of the program's run, and what went on from there did with it as
+-- the program means.
+pub record MeansInParts (Comes : Shelves) (room : Room) (steps more : ℕ) (name : List ℕ) (program : Program)
+    (ports : List PortState) (old left from new : Outside) (ports_left ports_from ports_new : List PortView)
+    (status : ℕ) : Type 0 where
   pub printed : List ℕ
   pub prints : Appends old.out left.out printed
   pub ports_as_left : List PortState
   pub told : Tell ports_left ports_as_left
-  pub means : MeansTogether Comes more name program (record { room = room; ports = ports; steps = steps; printed = printed; left = ports_as_left })
+  pub means : MeansTogether Comes more name program
+      (record { room = room; ports = ports; steps = steps; printed = printed; left = ports_as_left })
       from new ports_from ports_new status

@@ -55,11 +55,11 @@ pub fn run_means_law()
     meant_law();
 }
 
-/// What goes on from the snapshot of a suspended run does with that run as each program means whose units its library has, and such a
-/// snapshot is never refused.
+/// What goes on from the snapshot of a suspended run does with that run as each program means whose units its library
+/// has, and such a snapshot is never refused.
 pub fn resume_means_law()
-    ensures { (below : Shelf) (steps : ℕ) (name snap : List ℕ) (words : List (List ℕ)) (save : Option ℕ) (old new : Outside)
-        (ports_old ports_new : List PortView) (status : ℕ)
+    ensures { (below : Shelf) (steps : ℕ) (name snap : List ℕ) (words : List (List ℕ)) (save : Option ℕ)
+        (old new : Outside) (ports_old ports_new : List PortView) (status : ℕ)
         → EndsResume (ResumeLibrary below) steps name snap words save old new ports_old ports_new status
         → ResumeMeans (ResumeLibrary below) steps name snap old new ports_old ports_new status }
 {
@@ -67,17 +67,21 @@ pub fn resume_means_law()
     rest_law();
 }
 
-/// A run that is suspended, whose library has a program's units, and what goes on from the snapshot that it saved do together as the program
-/// means, where the library is still the same. The snapshot is never refused.
+/// A run that is suspended, whose library has a program's units, and what goes on from the snapshot that it saved do
+/// together as the program means, where the library is still the same. The snapshot is never refused.
 pub fn parts_mean_law()
-    ensures { (below : Shelf) (main : List ℕ) (room : Room) (steps more : ℕ) (name snap : List ℕ) (words : List (List ℕ)) (save : Option ℕ)
-        (program : Program) (ports : List PortState) (file : FileOf) (printed : List ℕ) (old left from new : Outside)
-        (ports_old ports_left ports_from ports_new : List PortView) (status : ℕ) → room.cells ≤ 4194304 → room.bytes ≤ 16777216
+    ensures { (below : Shelf) (main : List ℕ) (room : Room) (steps more : ℕ) (name snap : List ℕ)
+        (words : List (List ℕ)) (save : Option ℕ) (program : Program) (ports : List PortState) (file : FileOf)
+        (printed : List ℕ) (old left from new : Outside)
+        (ports_old ports_left ports_from ports_new : List PortView) (status : ℕ)
+        → room.cells ≤ 4194304 → room.bytes ≤ 16777216
         → EndsRunTo (Some snap) (RunLibrary below main) room steps name old left ports_old ports_left 5
         → EndsResume (ResumeLibrary below) more name snap words save from new ports_from ports_new status
-        → HoldsProgram (RunLibrary below main) old.files name program → old.files ≡ Some file → old.out ≡ Some printed → Tell ports_old ports
-        → AreAccounted ports_old ports_left → from.files ≡ left.files → IsSameLibrary below main old.files left.files name
-        → MeansInParts (ResumeLibrary below) room steps more name program ports old left from new ports_left ports_from ports_new status }
+        → HoldsProgram (RunLibrary below main) old.files name program → old.files ≡ Some file → old.out ≡ Some printed
+        → Tell ports_old ports → AreAccounted ports_old ports_left → from.files ≡ left.files
+        → IsSameLibrary below main old.files left.files name
+        → MeansInParts (ResumeLibrary below) room steps more name program ports old left from new
+        ports_left ports_from ports_new status }
 {
     meant_law();
     rest_law();

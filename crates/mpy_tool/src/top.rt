@@ -283,13 +283,14 @@ pub fn mpy<F: Folder, S: Sink, P: Port, E: Sink>(
         let main = main_name call.words order.main_name in
         ShowsPorts call (RunMeans (RunLibrary below main) (room_of order) order.steps file))) }
 
-    // Where run takes all its steps and saves its state, SNAP is the snapshot of a run that is suspended. `resume` of such a snapshot does
-    // with that run as its program means: what both print together, how it ends and what it leaves of the ports; it stops earlier only at
-    // its last step, and refuses no such snapshot.
+    // Where run takes all its steps and saves its state, SNAP is the snapshot of a run that is suspended. `resume` of
+    // such a snapshot does with that run as its program means: what both print together, how it ends and what it leaves
+    // of the ports; it stops earlier only at its last step, and refuses no such snapshot.
     ensures suspends { let call = call_of F.Folder S.Sink P.Port E.Sink words.now outside.old outside.new result in
         OrdersOne call commands.Run (λ order file. Based call order.base (λ below.
         let main = main_name call.words order.main_name in
-        ShowsPorts call (SavesRun (saved_name call.words order.save) (RunLibrary below main) (room_of order) order.steps file))) }
+        let saved = saved_name call.words order.save in
+        ShowsPorts call (SavesRun saved (RunLibrary below main) (room_of order) order.steps file))) }
     ensures resume_means { let call = call_of F.Folder S.Sink P.Port E.Sink words.now outside.old outside.new result in
         OrdersTwo call commands.Resume (λ order file snap. Based call order.base (λ below.
         ShowsPorts call (ResumeMeans (ResumeLibrary below) order.steps file snap))) }

@@ -87,7 +87,8 @@ FirstSnapFault shelf bytes BadState = (s : Snapshot) × Fits s × (bytes ≡ spe
 abbrev pub IsLongFile : Option FileOf → (name : List ℕ) → Type 0
 IsLongFile files name = IfSome files (λ file. (bytes : List ℕ) × (file name ≡ Some bytes) × (MAX_READ_BYTES < length bytes))
 
--- the file under the name isn't the snapshot of a state of the library, by this first fault of its bytes. The library has its tables
+-- the file under the name isn't the snapshot of a state of the library, by this first fault of its bytes. The library
+-- has its tables
 pub record HoldsNoState (shelf : Shelf) (files : Option FileOf) (name : List ℕ) (fault : SnapFault) : Type 0 where
   pub bytes : List ℕ
   pub holds : MayHold files name (Some bytes)
@@ -120,7 +121,8 @@ RefusesState shelf files name Unwritten = ⊥
 RefusesState shelf files name NoMemory = Unit {0}
 RefusesState shelf files name Absent = MayHold files name None
 
--- the file under the name is a snapshot of a state of the library, which has its tables, and the machine, which runs the library, was made of it
+-- the file under the name is a snapshot of a state of the library, which has its tables, and the machine, which runs
+-- the library, was made of it
 pub record HoldsState (shelf : Shelf) (files : Option FileOf) (name : List ℕ) (vm : Vm) : Type 0 where
   pub bytes : List ℕ
   pub holds : MayHold files name (Some bytes)

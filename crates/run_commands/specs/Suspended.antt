@@ -33,7 +33,8 @@ AreNamed shelf = HasNames shelf
 -- the snapshot of a run
 -- =====================
 
--- a run up to where it was suspended: its room and its ports, how many steps it took, what it printed in these, and what it left of the ports
+-- a run up to where it was suspended: its room and its ports, how many steps it took, what it printed in these, and
+-- what it left of the ports
 pub record Front : Type 0 where
   pub room : Room
   pub ports : List PortState
@@ -41,9 +42,11 @@ pub record Front : Type 0 where
   pub printed : List ℕ
   pub left : List PortState
 
--- in a program of the library the run of the main module of this name prints that in those steps, and leaves the ports so
+-- in a program of the library the run of the main module of this name prints that in those steps, and leaves the ports
+-- so
 pub record RunsFront (p : Program) (main : Name) (front : Front) : Type 0 where
-  pub prints : (run p.library main front.room.cells front.room.bytes front.ports front.steps).world.output ≡ front.printed
+  pub prints : (run p.library main front.room.cells front.room.bytes front.ports front.steps).world.output
+      ≡ front.printed
   pub leaves : (run p.library main front.room.cells front.room.bytes front.ports front.steps).world.ports ≡ front.left
 
 -- the bytes are the snapshot of the machine at which that run stands behind those steps
@@ -61,10 +64,10 @@ RefusesSnapshot shelf file name = (fault : SnapFault) × RefusesState shelf (Som
 -- what a run leaves that saves its state
 -- ======================================
 
--- A run in this room, with these ports and for these steps, left this: its library was run, and the file of this name has the snapshot of the
--- run, with what it printed and left of the ports. No other file changed.
-pub record LeavesRun (Comes : Result Ready Ending → Type 0) (room : Room) (steps : ℕ) (snap : List ℕ) (ports : List PortState) (old new : Sight)
-    (files_old files_new : Option FileOf) : Type 0 where
+-- A run in this room, with these ports and for these steps, left this: its library was run, and the file of this name
+-- has the snapshot of the run, with what it printed and left of the ports. No other file changed.
+pub record LeavesRun (Comes : Result Ready Ending → Type 0) (room : Room) (steps : ℕ) (snap : List ℕ)
+    (ports : List PortState) (old new : Sight) (files_old files_new : Option FileOf) : Type 0 where
   pub ready : Ready
   pub comes : Comes (Ok ready)
   pub printed : List ℕ
@@ -74,16 +77,19 @@ pub record LeavesRun (Comes : Result Ready Ending → Type 0) (room : Room) (ste
   pub told : Tell new.ports left
   pub written : Becomes files_old files_new snap bytes
   pub suspended : AreNamed ready.library
-      → IsSuspendedRun ready.library ready.main (record { room = room; ports = ports; steps = steps; printed = printed; left = left }) bytes
+      → IsSuspendedRun ready.library ready.main
+      (record { room = room; ports = ports; steps = steps; printed = printed; left = left }) bytes
 
--- With status 5 a run whose state is saved under a name, if one is given, leaves that, where the sink of the output and the ports tell what
--- they have, and each port its faults.
-abbrev pub SavesRun : (saved : Option (List ℕ)) → (Comes : Option FileOf → (name : List ℕ) → Result Ready Ending → Type 0) → Room → (steps : ℕ)
-    → (name : List ℕ) → (old new : Outside) → (ports_old ports_new : List PortView) → (status : ℕ) → Type 0
+-- With status 5 a run whose state is saved under a name, if one is given, leaves that, where the sink of the output and
+-- the ports tell what they have, and each port its faults.
+abbrev pub SavesRun : (saved : Option (List ℕ))
+    → (Comes : Option FileOf → (name : List ℕ) → Result Ready Ending → Type 0) → Room → (steps : ℕ) → (name : List ℕ)
+    → (old new : Outside) → (ports_old ports_new : List PortView) → (status : ℕ) → Type 0
 SavesRun saved Comes room steps name old new ports_old ports_new status =
-    IfSome saved (λ snap. status ≡ 5 → (ports : List PortState) (before : List ℕ) → Tell ports_old ports → AreAccounted ports_old ports_new
-    → old.out ≡ Some before
-    → LeavesRun (Comes old.files name) room steps snap ports (sight_in old ports_old) (sight_in new ports_new) old.files new.files)
+    IfSome saved (λ snap. status ≡ 5 → (ports : List PortState) (before : List ℕ) → Tell ports_old ports
+    → AreAccounted ports_old ports_new → old.out ≡ Some before
+    → LeavesRun (Comes old.files name) room steps snap ports (sight_in old ports_old) (sight_in new ports_new)
+    old.files new.files)
 
 -- one run of all the steps
 -- ========================
@@ -96,11 +102,13 @@ view_of port = record { told = Some port; count = 0 }
 abbrev pub told_of : (printed : List ℕ) → List PortState → Sight
 told_of printed ports = record { out = Some printed; ports = map view_of ports }
 
--- What went on for these steps behind a suspended run was the rest of one run of all its steps: that prints what was printed before and behind,
--- leaves the ports as they were left in the end, and ends so.
-pub record IsRest (shelf : Shelf) (main : Name) (front : Front) (steps : ℕ) (old new : Sight) (end : RunEnd) (said : List ℕ) : Type 0 where
+-- What went on for these steps behind a suspended run was the rest of one run of all its steps: that prints what was
+-- printed before and behind, leaves the ports as they were left in the end, and ends so.
+pub record IsRest (shelf : Shelf) (main : Name) (front : Front) (steps : ℕ) (old new : Sight) (end : RunEnd)
+    (said : List ℕ) : Type 0 where
   pub rest : List ℕ
   pub ports : List PortState
   pub prints : Appends old.out new.out rest
   pub told : Tell new.ports ports
-  pub whole : RunsAs shelf main front.room (front.steps + steps) (told_of [] front.ports) (told_of (front.printed ++ rest) ports) end said
+  pub whole : RunsAs shelf main front.room (front.steps + steps)
+      (told_of [] front.ports) (told_of (front.printed ++ rest) ports) end said
