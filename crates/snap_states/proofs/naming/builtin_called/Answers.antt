@@ -8,10 +8,10 @@ use Rattle.snap_states.proofs.naming.builtin_called.Goals as goal
 pub returns-in-Some : goal.returns-in-Some
 returns-in-Some c =
     sym (called_first builtin_name c.args.name.now globals others c.in-Some.b
-      (ap (called builtin_name c.args.name.now) (sym c.global_builtins.ensures) ∙ sym c.first_builtin.ensures ∙ c.in-Some.is))
+    (ap (called builtin_name c.args.name.now) (sym c.global_builtins.ensures) ∙ sym c.first_builtin.ensures ∙ c.in-Some.is))
 
 pub returns-in-None : goal.returns-in-None
 returns-in-None c =
     c.first_builtin-in-None.ensures ∙ ap (called builtin_name c.args.name.now) c.other_builtins.ensures
     ∙ sym (called_last builtin_name c.args.name.now globals others
-      (ap (called builtin_name c.args.name.now) (sym c.global_builtins.ensures) ∙ sym c.first_builtin.ensures ∙ c.in-None.is))
+    (ap (called builtin_name c.args.name.now) (sym c.global_builtins.ensures) ∙ sym c.first_builtin.ensures ∙ c.in-None.is))
